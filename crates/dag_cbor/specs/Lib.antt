@@ -1,0 +1,4 @@
+pub mod Spelling
+pub mod Plain
+pub mod Fault
+pub mod Reading

@@ -1,0 +1,31 @@
+-- How a value is spelled (RFC 8949, section 3; the DAG-CBOR specification, "Strictness").
+use Rattle.std.specs.Prelude.{ℕ, ◌+◌, ◌*◌, ◌^◌, List, [], ◌∷◌, ◌++◌, length, pos, negsuc, nat_lt, if◌then◌else◌}
+use Rattle.std.specs.Int.{w16, w32, w64, to_be_bytes}
+use Rattle.dag_cbor.specs.declared.value.Value.{Value, Value-F, fold-Value}
+use Rattle.dag_cbor.specs.declared.value.Value.TheOpen as layer
+
+-- the head of an item: its major type in the three high bits, and its number in as few bytes as hold it
+unfoldable pub head : ℕ → ℕ → List ℕ
+head major n =
+    if nat_lt n 24 then (32 * major + n) ∷ []
+    else (if nat_lt n (2 ^ 8) then (32 * major + 24) ∷ (n ∷ [])
+    else (if nat_lt n (2 ^ 16) then (32 * major + 25) ∷ to_be_bytes w16 n
+    else (if nat_lt n (2 ^ 32) then (32 * major + 26) ∷ to_be_bytes w32 n
+    else (32 * major + 27) ∷ to_be_bytes w64 n)))
+
+-- spellings one after another
+abbrev pub joined : List (List ℕ) → List ℕ
+joined [] = []
+joined (t ∷ ts) = t ++ joined ts
+
+-- one item, given the spellings of the items in it: majors 0 and 1 are the integers n and -1 - n, 2 a byte
+-- string behind its length, 4 a list behind its count
+abbrev pub spelled_layer : Value-F (List ℕ) → List ℕ
+spelled_layer (layer.Int (pos n)) = head 0 n
+spelled_layer (layer.Int (negsuc n)) = head 1 n
+spelled_layer (layer.Blob bytes) = head 2 (length bytes) ++ bytes
+spelled_layer (layer.List items) = head 4 (length items) ++ joined items
+
+-- the one spelling of a value
+unfoldable pub spelled : Value → List ℕ
+spelled = fold-Value (List ℕ) spelled_layer

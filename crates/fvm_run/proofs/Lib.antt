@@ -1,0 +1,4 @@
+pub mod Known
+pub mod Moves
+pub mod Ends
+pub mod OneAnswer

@@ -1,0 +1,7 @@
+pub mod Commands
+pub mod Answers
+pub mod Stops
+pub mod Statuses
+pub mod Writing
+pub mod Lines
+pub mod Headline

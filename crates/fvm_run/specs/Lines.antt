@@ -1,0 +1,31 @@
+-- The line that a status other than `Done` puts on standard error.
+use Rattle.std.specs.Prelude.{ℕ, List, [], ◌++◌, codes}
+use Rattle.std.specs.Fmt.{decimal}
+use Rattle.dag_cbor.specs.declared.fault.CborKind.{CborKind}
+use Rattle.dag_cbor.specs.declared.fault.CborKind.TheVariants.{NoItem}
+use Rattle.tipset_exec.specs.declared.reading.FormFault.{FormFault}
+use Rattle.tipset_exec.specs.declared.reading.FormFault.TheVariants.{Shape}
+use Rattle.fvm_run.specs.declared.refusal.Refusal.{Refusal}
+use Rattle.fvm_run.specs.declared.refusal.Refusal.TheVariants.{TooLong, CarNotBuilt, Cbor, Form}
+use Rattle.fvm_run.specs.declared.status.Status.{Status}
+use Rattle.fvm_run.specs.declared.status.Status.TheVariants.{Done, Usage, Refused, ReadFault, WriteFault, NoMemory}
+
+abbrev pub cbor_kind : CborKind → List ℕ
+cbor_kind NoItem = codes "NoItem"
+
+abbrev pub form_kind : FormFault → List ℕ
+form_kind Shape = codes "Shape"
+
+abbrev pub refusal_line : Refusal → List ℕ
+refusal_line TooLong = codes "refused input TooLong\n"
+refusal_line CarNotBuilt = codes "refused CarNotBuilt\n"
+refusal_line (Cbor fault) = codes "refused cbor " ++ (cbor_kind fault.kind ++ (codes " " ++ (decimal fault.at ++ codes "\n")))
+refusal_line (Form fault) = codes "refused form " ++ (form_kind fault ++ codes "\n")
+
+abbrev pub line : Status → List ℕ
+line Done = []
+line (Usage fault) = codes "usage: run [--workers W] [--engines E] | schedule [--engines E] [--seed S] | check | pack | generate S N | load S N\n"
+line (Refused refusal) = refusal_line refusal
+line ReadFault = codes "read fault\n"
+line WriteFault = codes "write fault\n"
+line NoMemory = codes "no memory\n"

@@ -1,0 +1,52 @@
+-- Why a command has no text.
+use Rattle.std.specs.Prelude.{ℕ, List, Option, Err}
+use Rattle.fil_base.specs.declared.failure.Failure.{Failure}
+use Rattle.fil_base.specs.declared.failure.Failure.TheVariants as failure
+use Rattle.dag_cbor.specs.declared.fault.CborFault.{CborFault}
+use Rattle.tipset_exec.specs.declared.reading.FormFault.{FormFault}
+use Rattle.std.specs.Io.KnownBytes.{IsAtEnd}
+use Rattle.outside_io.specs.Causes.{Rose}
+use Rattle.fvm_run.specs.declared.command.Command.{Command}
+use Rattle.fvm_run.specs.declared.refusal.Refusal.{Refusal}
+use Rattle.fvm_run.specs.declared.refusal.Refusal.TheVariants.{TooLong, Cbor, Form}
+use Rattle.fvm_run.specs.declared.status.Status.{Status}
+use Rattle.fvm_run.specs.declared.status.Status.TheVariants as status
+use Rattle.fvm_run.specs.declared.stop.Stop.{Stop}
+use Rattle.fvm_run.specs.declared.stop.Stop.TheVariants.{ReadFailed, NoMemory, Refused}
+use Rattle.fvm_run.specs.Answers.{Answers}
+
+-- no memory stays so, and a fault is a refusal
+abbrev pub cbor_stop : Failure CborFault → Stop
+cbor_stop failure.NoMemory = NoMemory
+cbor_stop (failure.Fault fault) = Refused (Cbor fault)
+
+abbrev pub form_stop : Failure FormFault → Stop
+form_stop failure.NoMemory = NoMemory
+form_stop (failure.Fault fault) = Refused (Form fault)
+
+-- the source was read to its end before a refusal, but for that of an input that is too long
+abbrev pub IsReadBefore : Refusal → Option (List ℕ) → Type 0
+IsReadBefore TooLong left = Unit {0}
+IsReadBefore refusal left = IsAtEnd left
+
+-- a refusal is the command's answer to what the source had left
+abbrev pub IsRefusalOf : Command → Option (List ℕ) → Option (List ℕ) → Refusal → Type 0
+IsRefusalOf command old new refusal = Answers command old (Err refusal) × IsReadBefore refusal new
+
+-- a read fault comes only where the source's count of faults rose, and a refusal is the answer
+abbrev pub HasCauseOfStop : Command → Option (List ℕ) → Option (List ℕ) → ℕ → ℕ → Stop → Type 0
+HasCauseOfStop command old new before now ReadFailed = Rose before now
+HasCauseOfStop command old new before now NoMemory = Unit {0}
+HasCauseOfStop command old new before now (Refused refusal) = IsRefusalOf command old new refusal
+
+-- where the command was refused, P holds of the refusal; and its source did not fail
+abbrev pub IfRefused : (Refusal → Type 0) → Stop → Type 0
+IfRefused P ReadFailed = ⊥
+IfRefused P NoMemory = Unit {0}
+IfRefused P (Refused refusal) = P refusal
+
+-- the status with which a command ends that has no text
+abbrev pub status_of_stop : Stop → Status
+status_of_stop ReadFailed = status.ReadFault
+status_of_stop NoMemory = status.NoMemory
+status_of_stop (Refused refusal) = status.Refused refusal

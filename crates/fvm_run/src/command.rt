@@ -1,0 +1,29 @@
+ghost use Rattle.std.specs.Prelude.{◌≡◌, ◌∷◌, []};
+ghost use Rattle.fvm_run.specs.Commands.{command, named};
+
+/// What the program is asked to do.
+#[derive(Clone, Copy, Debug, PartialEq, Eq)]
+pub enum Command {
+    /// Reads an account list, runs it and prints its report.
+    Run,
+}
+
+/// The command that the words name. It takes no memory.
+pub fn command_of(words: &[String]) -> Option<Command>
+    ensures { result ≡ named words.now }
+{
+    match words {
+        [word] => command_named(word),
+        _ => None,
+    }
+}
+
+fn command_named(word: &str) -> Option<Command>
+    ensures { result ≡ command (word.now ∷ []) }
+{
+    if word == "run" {
+        Some(Command::Run)
+    } else {
+        None
+    }
+}

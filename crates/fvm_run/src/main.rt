@@ -1,0 +1,69 @@
+//! The program `fvm`. Its one command so far is `run` over an account list: it reads the list from standard
+//! input, runs it, and prints the report.
+//!
+//! ```text
+//! fvm run < transfers.cbor
+//! ```
+//!
+//! Everything that matters stands in [`fvm_main`], whose contract says what the program answers. `main` makes
+//! the sources and sinks over the standard streams, collects the words, and ends with the number of the status.
+#![tactic(auto)]
+
+mod answering;
+mod command;
+mod input;
+mod laws;
+mod line;
+mod output;
+mod refusal;
+mod running;
+mod status;
+mod stop;
+#[cfg(test)]
+mod tests;
+
+pub use answering::fvm_main;
+pub use command::{Command, command_of};
+pub use laws::one_answer;
+use outside_io::{NoGate, ReadSource, WriteSink};
+pub use refusal::Refusal;
+pub use status::{Status, UsageFault, status_number};
+use std::alloc::AllocError;
+use std::env;
+use std::io::ErrorKind;
+use std::process::ExitCode;
+use std::rt::Env;
+
+fn main(rt: HostRuntime) -> ExitCode {
+    let mut source = ReadSource::new(rt.stdin());
+    let mut out = WriteSink::new(rt.stdout());
+    let mut faults = WriteSink::new(rt.stderr());
+    let status = match words_of(&rt) {
+        Ok(words) => fvm_main(
+            &rt,
+            rt.alloc(),
+            words.as_slice(),
+            &mut source,
+            &mut out,
+            &mut faults,
+            &NoGate,
+        ),
+        Err(_) => Status::NoMemory,
+    };
+    ExitCode::from(status_number(&status))
+}
+
+/// The words behind the program's name. Where one of them is no UTF-8 text, one empty word stands for all.
+fn words_of<R: Env + AllocGlobal>(rt: &R) -> Result<Vec<String>, AllocError> {
+    let mut words = Vec::new(rt.alloc());
+    match env::args(rt) {
+        Ok(args) => {
+            for word in args.skip(1) {
+                words.push(word)?;
+            }
+        }
+        Err(error) if error.kind() == ErrorKind::OutOfMemory => return Err(AllocError),
+        Err(_) => words.push(String::new(rt.alloc()))?,
+    }
+    Ok(words)
+}

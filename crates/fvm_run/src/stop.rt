@@ -1,0 +1,69 @@
+ghost use Rattle.std.specs.Prelude.{◌≡◌};
+ghost use Rattle.fvm_run.specs.declared.stop.Stop.TheVariants.{ReadFailed, NoMemory as OutOfMemory};
+ghost use Rattle.fvm_run.specs.Stops.{cbor_stop, form_stop};
+
+use crate::refusal::Refusal;
+use dag_cbor::CborFault;
+use fil_base::{Failure, NoMemory};
+use outside_io::Failed;
+use std::alloc::AllocError;
+use tipset_exec::FormFault;
+
+/// Why a command has no text.
+#[derive(Clone, Copy, Debug, PartialEq, Eq)]
+pub enum Stop {
+    /// The source failed.
+    ReadFailed,
+
+    /// There was no memory.
+    NoMemory,
+
+    /// The input is refused.
+    Refused(Refusal),
+}
+
+impl From<Failed> for Stop {
+    ghost from_gives = { λ _ stop. stop ≡ ReadFailed };
+
+    fn from(_: Failed) -> Stop {
+        Stop::ReadFailed
+    }
+}
+
+impl From<NoMemory> for Stop {
+    ghost from_gives = { λ _ stop. stop ≡ OutOfMemory };
+
+    fn from(_: NoMemory) -> Stop {
+        Stop::NoMemory
+    }
+}
+
+impl From<AllocError> for Stop {
+    ghost from_gives = { λ _ stop. stop ≡ OutOfMemory };
+
+    fn from(_: AllocError) -> Stop {
+        Stop::NoMemory
+    }
+}
+
+impl From<Failure<CborFault>> for Stop {
+    ghost from_gives = { λ failure stop. stop ≡ cbor_stop failure };
+
+    fn from(failure: Failure<CborFault>) -> Stop {
+        match failure {
+            Failure::NoMemory => Stop::NoMemory,
+            Failure::Fault(fault) => Stop::Refused(Refusal::Cbor(fault)),
+        }
+    }
+}
+
+impl From<Failure<FormFault>> for Stop {
+    ghost from_gives = { λ failure stop. stop ≡ form_stop failure };
+
+    fn from(failure: Failure<FormFault>) -> Stop {
+        match failure {
+            Failure::NoMemory => Stop::NoMemory,
+            Failure::Fault(fault) => Stop::Refused(Refusal::Form(fault)),
+        }
+    }
+}
