@@ -1,154 +1,185 @@
--- Steps of reading that did not fail, and the bytes that they leave.
-use Rattle.std.proofs.Common.{◌≡◌, ℕ, ◌/◌, ◌%◌, ◌^◌, ◌<◌, ◌≤◌, Bool, true, false, cond, ltb, eqb, List, [], ◌∷◌, length, take, drop, Result, Ok, Err, refl, sym, ap, subst, ◌∙◌, arith, inl, inr, ◌⊎◌, pos, negsuc}
+-- Steps of reading, and the bytes that they leave.
+use Rattle.std.proofs.Common.{◌≡◌, ℕ, suc, ◌+◌, ◌/◌, ◌%◌, ◌<◌, ◌≤◌, Bool, true, false, cond, ltb, eqb, List, [], ◌∷◌, length, take, drop, Result, Ok, Err, Option, Some, None, pos, negsuc, refl, ap, subst, arith, inl, inr, ◌⊎◌}
 use Rattle.std.specs.Int.{Width, w8, w16, w32, w64, byte_len, from_be_bytes}
+use Rattle.std.specs.Str.{is_utf8}
+use Rattle.std.specs.declared.cmp.Ordering.{Ordering}
+use Rattle.std.specs.declared.cmp.Ordering.TheVariants as orders
 use Rattle.std.proofs.lemmas.List.{length-drop}
-use Rattle.std.proofs.lemmas.Bool.{eqb-true, ltb-true, ltb-false}
-use Rattle.dag_cbor.specs.declared.value.Value.TheVariants as v
+use Rattle.fil_base.specs.CidParts.{CidParts}
+use Rattle.dag_cbor.specs.declared.value.Value.{Value}
+use Rattle.dag_cbor.specs.declared.fault.Flaw.{Flaw}
 use Rattle.dag_cbor.specs.declared.fault.CborKind.{CborKind}
-use Rattle.dag_cbor.specs.declared.fault.CborKind.TheVariants.{NoItem}
+use Rattle.dag_cbor.specs.declared.fault.CborKind.TheVariants as kinds
 use Rattle.dag_cbor.specs.declared.head.Head.{Head}
 use Rattle.dag_cbor.specs.declared.token.Token.{Token}
-use Rattle.dag_cbor.specs.declared.token.Token.TheVariants.{Whole, Open}
-use Rattle.dag_cbor.specs.Reading.{◌>>=◌, number_at, shortest, head_after, head_at, blob_at, as_blob, token_after, token_at}
+use Rattle.dag_cbor.specs.declared.token.Token.TheVariants as tokens
+use Rattle.dag_cbor.specs.declared.value.Value.TheVariants as v
+use Rattle.dag_cbor.specs.declared.partial.Partial.{Partial}
+use Rattle.dag_cbor.specs.declared.partial.Partial.TheVariants as partials
+use Rattle.dag_cbor.specs.declared.frame.Frame.{Frame}
+use Rattle.dag_cbor.specs.HeadRows.{head_fault}
+use Rattle.dag_cbor.specs.Keys.{last_key, order_after}
+use Rattle.dag_cbor.specs.Reading.{◌>>=◌, flaw, number_at, number_behind, with_number, raw_head_at, unless, judged, head_at, within, blob_at, as_text, text_at, of_link, linked, as_cid, link_at, of_key, in_order, after_last, key_at, blob_token, text_token, link_token, simple, token_after, token_at}
+use Rattle.dag_cbor.specs.Nesting.{with_key, begun}
 
 -- the value of a step that did not fail
-pub bind_ok : {A B : Type 0} (r : Result A CborKind) (next : A → Result B CborKind) (y : B) → (r >>= next) ≡ Ok y → (x : A) × (r ≡ Ok x) × (next x ≡ Ok y)
+pub bind_ok : {A B : Type 0} (r : Result A Flaw) (next : A → Result B Flaw) (y : B) → (r >>= next) ≡ Ok y → (x : A) × (r ≡ Ok x) × (next x ≡ Ok y)
 bind_ok (Ok x) next y e = (x, refl, e)
-bind_ok (Err kind) next y e = absurd cc
+bind_ok (Err at) next y e = absurd cc
 
-abbrev done : {A : Type 0} → A → Result A CborKind
+abbrev done : {A : Type 0} → A → Result A Flaw
 done x = Ok x
 
 pub ok_is : {A : Type 0} (x y : A) → done x ≡ done y → x ≡ y
 ok_is x y e = cc
 
 -- a test that did not fail
-pub guard_ok : {A : Type 0} (b : Bool) (kind : CborKind) (x y : A) → cond b (Err kind) (Ok x) ≡ Ok y → (b ≡ false) × (x ≡ y)
-guard_ok true kind x y e = absurd cc
-guard_ok false kind x y e = (refl, cc)
+pub guard_ok : {A : Type 0} (b : Bool) (at : Flaw) (x y : A) → cond b (Err at) (Ok x) ≡ Ok y → (b ≡ false) × (x ≡ y)
+guard_ok true at x y e = absurd cc
+guard_ok false at x y e = (refl, cc)
+
+-- a test that succeeded
+pub check_ok : {A : Type 0} (b : Bool) (at : Flaw) (x y : A) → cond b (Ok x) (Err at) ≡ Ok y → (b ≡ true) × (x ≡ y)
+check_ok true at x y e = (refl, cc)
+check_ok false at x y e = absurd cc
 
 -- which way a test went
 pub chosen : {A : Type 0} (b : Bool) (x y z : A) → cond b x y ≡ z → ((b ≡ true) × (x ≡ z)) ⊎ ((b ≡ false) × (y ≡ z))
 chosen true x y z e = inl (refl, e)
 chosen false x y z e = inr (refl, e)
 
--- ---- what a step leaves is no longer
+-- ---- how many bytes a step leaves
 
-number_shorter : (width : Width) (bytes : List ℕ) (n : ℕ × List ℕ) → number_at width bytes ≡ Ok n → length n.1 ≤ length bytes
-number_shorter width bytes n e =
-    let g = guard_ok (ltb (length bytes) (byte_len width)) NoItem (from_be_bytes width (take (byte_len width) bytes), drop (byte_len width) bytes) n e in
-    subst (λ (x : ℕ × List ℕ). length x.1 ≤ length bytes) g.1 (omega (arith, length-drop (byte_len width) bytes))
+-- what is left, and so many bytes more, is no longer
+abbrev pub Leaves : {A : Type 0} → Result (A × List ℕ) Flaw → ℕ → ℕ → Type 0
+Leaves (Ok x) more len = length x.1 + more ≤ len
+Leaves (Err at) more len = Unit {0}
 
-shortest_rest : (major least : ℕ) (n : ℕ × List ℕ) (h : Head × List ℕ) → shortest major least n ≡ Ok h → h.1 ≡ n.1
-shortest_rest major least n h e =
-    let g = guard_ok (ltb n.0 least) NoItem (record { major = major; number = n.0 }, n.1) h e in
-    sym (ap (λ (x : Head × List ℕ). x.1) g.1)
+leaves_then : {A B : Type 0} (r : Result (A × List ℕ) Flaw) (f : A × List ℕ → Result (B × List ℕ) Flaw) (more len : ℕ) → Leaves r more len → ((x : A × List ℕ) → Leaves (f x) 0 (length x.1)) → Leaves (r >>= f) more len
+leaves_then (Ok x) f more len h g = widen (f x) more (length x.1) len h (g x)
+  where
+    widen : {C : Type 0} (s : Result (C × List ℕ) Flaw) (more mid len : ℕ) → mid + more ≤ len → Leaves s 0 mid → Leaves s more len
+    widen (Ok y) more mid len h g = omega arith
+    widen (Err at) more mid len h g = tt
+leaves_then (Err at) f more len h g = tt
 
-long_shorter : (width : Width) (major least : ℕ) (bytes : List ℕ) (h : Head × List ℕ) → (number_at width bytes >>= shortest major least) ≡ Ok h → length h.1 ≤ length bytes
-long_shorter width major least bytes h e =
-    let n = bind_ok (number_at width bytes) (shortest major least) h e in
-    omega (arith, number_shorter width bytes n.0 n.1, ap (λ (bs : List ℕ). length bs) (shortest_rest major least n.0 h n.2))
+leaves_if : {A : Type 0} (b : Bool) (r s : Result (A × List ℕ) Flaw) (more len : ℕ) → Leaves r more len → Leaves s more len → Leaves (cond b r s) more len
+leaves_if true r s more len h g = h
+leaves_if false r s more len h g = g
 
--- the number of a head goes by the low bits of its first byte
-pub data HeadCases (major info : ℕ) (bytes : List ℕ) (h : Head × List ℕ) : Type 0 where
-  short : info < 24 → (record { major = major; number = info }, bytes) ≡ h → HeadCases major info bytes h
-  long_8 : info ≡ 24 → (number_at w8 bytes >>= shortest major 24) ≡ Ok h → HeadCases major info bytes h
-  long_16 : info ≡ 25 → (number_at w16 bytes >>= shortest major (2 ^ 8)) ≡ Ok h → HeadCases major info bytes h
-  long_32 : info ≡ 26 → (number_at w32 bytes >>= shortest major (2 ^ 16)) ≡ Ok h → HeadCases major info bytes h
-  long_64 : info ≡ 27 → (number_at w64 bytes >>= shortest major (2 ^ 32)) ≡ Ok h → HeadCases major info bytes h
+weaker : {A : Type 0} (r : Result (A × List ℕ) Flaw) (len : ℕ) → Leaves r 1 len → Leaves r 0 len
+weaker (Ok x) len h = omega arith
+weaker (Err at) len h = tt
 
-abbrev from_27 : ℕ → ℕ → List ℕ → Result (Head × List ℕ) CborKind
-from_27 major info bytes = cond (eqb info 27) (number_at w64 bytes >>= shortest major (2 ^ 32)) (Err NoItem)
+number_leaves : (width : Width) (bytes : List ℕ) (len : ℕ) → length bytes < len → Leaves (number_at width bytes) 1 len
+number_leaves width bytes len lt =
+    leaves_if (ltb (length bytes) (byte_len width)) (Err (flaw kinds.Cut 0)) (Ok (from_be_bytes width (take (byte_len width) bytes), drop (byte_len width) bytes)) 1 len tt (omega (arith, length-drop (byte_len width) bytes))
 
-abbrev from_26 : ℕ → ℕ → List ℕ → Result (Head × List ℕ) CborKind
-from_26 major info bytes = cond (eqb info 26) (number_at w32 bytes >>= shortest major (2 ^ 16)) (from_27 major info bytes)
+behind_leaves : (info : ℕ) (bytes : List ℕ) (len : ℕ) → length bytes < len → Leaves (number_behind info bytes) 1 len
+behind_leaves info bytes len lt =
+    let short : Leaves (done (info, bytes)) 1 len = omega arith in
+    let l : Result (ℕ × List ℕ) Flaw = cond (eqb info 27) (number_at w64 bytes) (Ok (info, bytes)) in
+    let m : Result (ℕ × List ℕ) Flaw = cond (eqb info 26) (number_at w32 bytes) l in
+    let n : Result (ℕ × List ℕ) Flaw = cond (eqb info 25) (number_at w16 bytes) m in
+    leaves_if (eqb info 24) (number_at w8 bytes) n 1 len (number_leaves w8 bytes len lt)
+    (leaves_if (eqb info 25) (number_at w16 bytes) m 1 len (number_leaves w16 bytes len lt)
+    (leaves_if (eqb info 26) (number_at w32 bytes) l 1 len (number_leaves w32 bytes len lt)
+    (leaves_if (eqb info 27) (number_at w64 bytes) (Ok (info, bytes)) 1 len (number_leaves w64 bytes len lt) short)))
 
-abbrev from_25 : ℕ → ℕ → List ℕ → Result (Head × List ℕ) CborKind
-from_25 major info bytes = cond (eqb info 25) (number_at w16 bytes >>= shortest major (2 ^ 8)) (from_26 major info bytes)
+raw_leaves : (bytes : List ℕ) → Leaves (raw_head_at bytes) 1 (length bytes)
+unfolding raw_head_at
+raw_leaves [] = tt
+raw_leaves (first ∷ rest) = leaves_then (number_behind (first % 32) rest) (with_number (first / 32) (first % 32)) 1 (suc (length rest)) (behind_leaves (first % 32) rest (suc (length rest)) (omega arith)) (λ n. omega arith)
 
-abbrev from_24 : ℕ → ℕ → List ℕ → Result (Head × List ℕ) CborKind
-from_24 major info bytes = cond (eqb info 24) (number_at w8 bytes >>= shortest major 24) (from_25 major info bytes)
+unless_leaves : {A : Type 0} (fault : Option CborKind) (left : ℕ) (x : A × List ℕ) → Leaves (unless fault left x) 0 (length x.1)
+unless_leaves None left x = omega arith
+unless_leaves (Some kind) left x = tt
 
-pub head_cases : (major info : ℕ) (bytes : List ℕ) (h : Head × List ℕ) → head_after major info bytes ≡ Ok h → HeadCases major info bytes h
-head_cases major info bytes h e =
-    elim (chosen (ltb info 24) (Ok (record { major = major; number = info }, bytes)) (from_24 major info bytes) (Ok h) e) [
-      | inl p ↦ short (ltb-true _ _ p.0) (ok_is _ _ p.1)
-      | inr p ↦ elim (chosen (eqb info 24) (number_at w8 bytes >>= shortest major 24) (from_25 major info bytes) (Ok h) p.1) [
-        | inl q ↦ long_8 (eqb-true _ _ q.0) q.1
-        | inr q ↦ elim (chosen (eqb info 25) (number_at w16 bytes >>= shortest major (2 ^ 8)) (from_26 major info bytes) (Ok h) q.1) [
-          | inl r ↦ long_16 (eqb-true _ _ r.0) r.1
-          | inr r ↦ elim (chosen (eqb info 26) (number_at w32 bytes >>= shortest major (2 ^ 16)) (from_27 major info bytes) (Ok h) r.1) [
-            | inl s ↦ long_32 (eqb-true _ _ s.0) s.1
-            | inr s ↦ elim (chosen (eqb info 27) (number_at w64 bytes >>= shortest major (2 ^ 32)) (Err NoItem) (Ok h) s.1) [
-              | inl t ↦ long_64 (eqb-true _ _ t.0) t.1
-              | inr t ↦ let no : Err NoItem ≡ done h = t.1 in absurd cc
-            ]
-          ]
-        ]
-      ]
-    ]
-
-after_shorter : (major info : ℕ) (bytes : List ℕ) (h : Head × List ℕ) → HeadCases major info bytes h → length h.1 ≤ length bytes
-after_shorter major info bytes h (short lt e) = omega (arith, ap (λ (x : Head × List ℕ). length x.1) e)
-after_shorter major info bytes h (long_8 is e) = long_shorter w8 major 24 bytes h e
-after_shorter major info bytes h (long_16 is e) = long_shorter w16 major (2 ^ 8) bytes h e
-after_shorter major info bytes h (long_32 is e) = long_shorter w32 major (2 ^ 16) bytes h e
-after_shorter major info bytes h (long_64 is e) = long_shorter w64 major (2 ^ 32) bytes h e
-
-head_shorter : (bytes : List ℕ) (h : Head × List ℕ) → head_at bytes ≡ Ok h → length h.1 < length bytes
+head_leaves : (bytes : List ℕ) → Leaves (head_at bytes) 1 (length bytes)
 unfolding head_at
-head_shorter [] h e = absurd cc
-head_shorter (first ∷ rest) h e = omega (arith, after_shorter (first / 32) (first % 32) rest h (head_cases (first / 32) (first % 32) rest h e))
+head_leaves bytes = leaves_then (raw_head_at bytes) (judged (length bytes)) 1 (length bytes) (raw_leaves bytes) (λ x. unless_leaves (head_fault x.0) (length bytes) (record { major = x.0.major; number = x.0.number }, x.1))
 
--- an item goes by the major type of its head
-pub data TokenCases (h : Head) (bytes : List ℕ) (t : Token × List ℕ) : Type 0 where
-  natural : h.major ≡ 0 → (Whole (v.Int (pos h.number)), bytes) ≡ t → TokenCases h bytes t
-  negative : h.major ≡ 1 → (Whole (v.Int (negsuc h.number)), bytes) ≡ t → TokenCases h bytes t
-  blob : h.major ≡ 2 → h.number ≤ length bytes → (Whole (v.Blob (take h.number bytes)), drop h.number bytes) ≡ t → TokenCases h bytes t
-  list : h.major ≡ 4 → (Open h.number, bytes) ≡ t → TokenCases h bytes t
+same_leaves : {A : Type 0} (x : A × List ℕ) → Leaves (done x) 0 (length x.1)
+same_leaves x = omega arith
 
-abbrev from_4 : Head → List ℕ → Result (Token × List ℕ) CborKind
-from_4 h bytes = cond (eqb h.major 4) (Ok (Open h.number, bytes)) (Err NoItem)
+within_leaves : (room left : ℕ) (h : Head × List ℕ) → Leaves (within room left h) 0 (length h.1)
+within_leaves room left h = leaves_if (eqb room 0) (Err (flaw kinds.Depth left)) (Ok h) 0 (length h.1) tt (same_leaves h)
 
-abbrev from_2 : Head → List ℕ → Result (Token × List ℕ) CborKind
-from_2 h bytes = cond (eqb h.major 2) (blob_at h.number bytes >>= as_blob) (from_4 h bytes)
-
-abbrev from_1 : Head → List ℕ → Result (Token × List ℕ) CborKind
-from_1 h bytes = cond (eqb h.major 1) (Ok (Whole (v.Int (negsuc h.number)), bytes)) (from_2 h bytes)
-
-blob_cases : (h : Head) (bytes : List ℕ) (t : Token × List ℕ) → h.major ≡ 2 → (blob_at h.number bytes >>= as_blob) ≡ Ok t → TokenCases h bytes t
+blob_leaves : (len : ℕ) (bytes : List ℕ) → Leaves (blob_at len bytes) 0 (length bytes)
 unfolding blob_at
-blob_cases h bytes t is e =
-    let b = bind_ok (blob_at h.number bytes) as_blob t e in
-    let g = guard_ok (ltb (length bytes) h.number) NoItem (take h.number bytes, drop h.number bytes) b.0 b.1 in
-    let made : (Whole (v.Blob b.0.0), b.0.1) ≡ t = ok_is _ _ b.2 in
-    blob is (ltb-false _ _ g.0) (ap (λ (x : List ℕ × List ℕ). (Whole (v.Blob x.0), x.1)) g.1 ∙ made)
+blob_leaves len bytes = leaves_if (ltb (length bytes) len) (Err (flaw kinds.Cut 0)) (Ok (take len bytes, drop len bytes)) 0 (length bytes) tt (omega (arith, length-drop len bytes))
 
-pub token_cases : (h : Head) (bytes : List ℕ) (t : Token × List ℕ) → token_after h bytes ≡ Ok t → TokenCases h bytes t
-token_cases h bytes t e =
-    elim (chosen (eqb h.major 0) (Ok (Whole (v.Int (pos h.number)), bytes)) (from_1 h bytes) (Ok t) e) [
-      | inl p ↦ natural (eqb-true _ _ p.0) (ok_is _ _ p.1)
-      | inr p ↦ elim (chosen (eqb h.major 1) (Ok (Whole (v.Int (negsuc h.number)), bytes)) (from_2 h bytes) (Ok t) p.1) [
-        | inl q ↦ negative (eqb-true _ _ q.0) (ok_is _ _ q.1)
-        | inr q ↦ elim (chosen (eqb h.major 2) (blob_at h.number bytes >>= as_blob) (from_4 h bytes) (Ok t) q.1) [
-          | inl r ↦ blob_cases h bytes t (eqb-true _ _ r.0) r.1
-          | inr r ↦ elim (chosen (eqb h.major 4) (Ok (Open h.number, bytes)) (Err NoItem) (Ok t) r.1) [
-            | inl s ↦ list (eqb-true _ _ s.0) (ok_is _ _ s.1)
-            | inr s ↦ let no : Err NoItem ≡ done t = s.1 in absurd cc
-          ]
-        ]
-      ]
-    ]
+text_leaves : (left len : ℕ) (bytes : List ℕ) → Leaves (text_at left len bytes) 0 (length bytes)
+unfolding text_at
+text_leaves left len bytes = leaves_then (blob_at len bytes) (as_text left) 0 (length bytes) (blob_leaves len bytes) (λ b. leaves_if (is_utf8 b.0) (Ok b) (Err (flaw kinds.Utf8 left)) 0 (length b.1) (same_leaves b) tt)
 
-behind_shorter : (h : Head) (bytes : List ℕ) (t : Token × List ℕ) → TokenCases h bytes t → length t.1 ≤ length bytes
-behind_shorter h bytes t (natural is e) = omega (arith, ap (λ (x : Token × List ℕ). length x.1) e)
-behind_shorter h bytes t (negative is e) = omega (arith, ap (λ (x : Token × List ℕ). length x.1) e)
-behind_shorter h bytes t (blob is le e) = omega (arith, length-drop h.number bytes, ap (λ (x : Token × List ℕ). length x.1) e)
-behind_shorter h bytes t (list is e) = omega (arith, ap (λ (x : Token × List ℕ). length x.1) e)
+cid_leaves : (cid : Option CidParts) (left : ℕ) (rest : List ℕ) → Leaves (elim cid as (λ _. Result (CidParts × List ℕ) Flaw) [ Some c ↦ Ok (c, rest) | None ↦ Err (flaw kinds.LinkForm left) ]) 0 (length rest)
+cid_leaves (Some c) left rest = omega arith
+cid_leaves None left rest = tt
+
+link_leaves : (left : ℕ) (bytes : List ℕ) → Leaves (link_at left bytes) 1 (length bytes)
+unfolding link_at
+link_leaves left bytes =
+    leaves_then (head_at bytes >>= of_link left) (λ h. blob_at h.0.number h.1 >>= as_cid left) 1 (length bytes)
+    (leaves_then (head_at bytes) (of_link left) 1 (length bytes) (head_leaves bytes) (λ h. leaves_if (eqb h.0.major 2) (Ok h) (Err (flaw kinds.LinkForm left)) 0 (length h.1) (same_leaves h) tt))
+    (λ h. leaves_then (blob_at h.0.number h.1) (as_cid left) 0 (length h.1) (blob_leaves h.0.number h.1) (λ b. cid_leaves (linked b.0) left b.1))
+
+order_leaves : (o : Ordering) (left : ℕ) (key : List ℕ × List ℕ) → Leaves (in_order o left key) 0 (length key.1)
+order_leaves orders.Less left key = omega arith
+order_leaves orders.Equal left key = tt
+order_leaves orders.Greater left key = tt
+
+key_leaves : (room : ℕ) (pairs : List (List ℕ × Value)) (bytes : List ℕ) → Leaves (key_at room pairs bytes) 1 (length bytes)
+unfolding key_at
+key_leaves room pairs bytes =
+    leaves_then (head_at bytes >>= of_key room (length bytes) >>= λ h. text_at (length bytes) h.0.number h.1) (after_last (last_key pairs) (length bytes)) 1 (length bytes)
+    (leaves_then (head_at bytes >>= of_key room (length bytes)) (λ h. text_at (length bytes) h.0.number h.1) 1 (length bytes)
+    (leaves_then (head_at bytes) (of_key room (length bytes)) 1 (length bytes) (head_leaves bytes)
+    (λ h. leaves_if (eqb h.0.major 3) (within room (length bytes) h) (Err (flaw kinds.KeyKind (length bytes))) 0 (length h.1) (within_leaves room (length bytes) h) tt))
+    (λ h. text_leaves (length bytes) h.0.number h.1))
+    (λ k. order_leaves (order_after (last_key pairs) k.0) (length bytes) k)
+
+after_leaves : (left : ℕ) (h : Head × List ℕ) → Leaves (token_after left h) 0 (length h.1)
+after_leaves left h =
+    let m : ℕ = h.0.major in
+    let n : ℕ = h.0.number in
+    let len : ℕ = length h.1 in
+    let t7 : Result (Token × List ℕ) Flaw = Ok (tokens.Whole (simple n), h.1) in
+    let t6 : Result (Token × List ℕ) Flaw = cond (eqb m 6) (link_at left h.1 >>= link_token) t7 in
+    let t5 : Result (Token × List ℕ) Flaw = cond (eqb m 5) (Ok (tokens.Map n, h.1)) t6 in
+    let t4 : Result (Token × List ℕ) Flaw = cond (eqb m 4) (Ok (tokens.List n, h.1)) t5 in
+    let t3 : Result (Token × List ℕ) Flaw = cond (eqb m 3) (text_at left n h.1 >>= text_token) t4 in
+    let t2 : Result (Token × List ℕ) Flaw = cond (eqb m 2) (blob_at n h.1 >>= blob_token) t3 in
+    let t1 : Result (Token × List ℕ) Flaw = cond (eqb m 1) (Ok (tokens.Whole (v.Int (negsuc n)), h.1)) t2 in
+    let same : len + 0 ≤ len = omega arith in
+    leaves_if (eqb m 0) (Ok (tokens.Whole (v.Int (pos n)), h.1)) t1 0 len same
+    (leaves_if (eqb m 1) (Ok (tokens.Whole (v.Int (negsuc n)), h.1)) t2 0 len same
+    (leaves_if (eqb m 2) (blob_at n h.1 >>= blob_token) t3 0 len (leaves_then (blob_at n h.1) blob_token 0 len (blob_leaves n h.1) (λ b. omega arith))
+    (leaves_if (eqb m 3) (text_at left n h.1 >>= text_token) t4 0 len (leaves_then (text_at left n h.1) text_token 0 len (text_leaves left n h.1) (λ b. omega arith))
+    (leaves_if (eqb m 4) (Ok (tokens.List n, h.1)) t5 0 len same
+    (leaves_if (eqb m 5) (Ok (tokens.Map n, h.1)) t6 0 len same
+    (leaves_if (eqb m 6) (link_at left h.1 >>= link_token) t7 0 len (leaves_then (link_at left h.1) link_token 0 len (weaker (link_at left h.1) len (link_leaves left h.1)) (λ b. omega arith)) same))))))
 
 -- a token takes at least one byte
-pub token_shorter : (bytes : List ℕ) (t : Token × List ℕ) → token_at bytes ≡ Ok t → length t.1 < length bytes
+pub token_shorter : (room : ℕ) (bytes : List ℕ) (token : Token) (after : List ℕ) → token_at room bytes ≡ Ok (token, after) → length after < length bytes
 unfolding token_at
-token_shorter bytes t e =
-    let h = bind_ok (head_at bytes) (λ h. token_after h.0 h.1) t e in
-    omega (arith, head_shorter bytes h.0 h.1, behind_shorter h.0.0 h.0.1 t (token_cases h.0.0 h.0.1 t h.2))
+token_shorter room bytes token after e =
+    let leaves : Leaves (head_at bytes >>= within room (length bytes) >>= token_after (length bytes)) 1 (length bytes) =
+    leaves_then (head_at bytes >>= within room (length bytes)) (token_after (length bytes)) 1 (length bytes)
+    (leaves_then (head_at bytes) (within room (length bytes)) 1 (length bytes) (head_leaves bytes) (λ h. within_leaves room (length bytes) h))
+    (λ h. after_leaves (length bytes) h) in
+    let here : length after + 1 ≤ length bytes = subst (λ (r : Result (Token × List ℕ) Flaw). Leaves r 1 (length bytes)) e leaves in
+    omega arith
+
+with_key_leaves : (inner : Partial) (k : List ℕ × List ℕ) → Leaves (with_key inner k) 0 (length k.1)
+with_key_leaves (partials.List items wanted) (key, rest) = omega arith
+with_key_leaves (partials.Map items wanted) (key, rest) = omega arith
+
+-- what waits for an item has no more bytes before it
+pub begun_shorter : (room : ℕ) (inner : Partial) (bytes : List ℕ) (frame : Frame) (behind_key : List ℕ) → begun room inner bytes ≡ Ok (frame, behind_key) → length behind_key ≤ length bytes
+begun_shorter room (partials.List items wanted) bytes frame behind_key e = omega (arith, ap (λ (x : Frame × List ℕ). length x.1) (ok_is _ _ e))
+begun_shorter room (partials.Map items wanted) bytes frame behind_key e =
+    let leaves : Leaves (begun room (partials.Map items wanted) bytes) 0 (length bytes) =
+    weaker (begun room (partials.Map items wanted) bytes) (length bytes) (leaves_then (key_at room items.items bytes) (with_key (partials.Map items wanted)) 1 (length bytes) (key_leaves room items.items bytes) (λ k. with_key_leaves (partials.Map items wanted) k)) in
+    let here : length behind_key + 0 ≤ length bytes = subst (λ (r : Result (Frame × List ℕ) Flaw). Leaves r 0 (length bytes)) e leaves in
+    omega arith

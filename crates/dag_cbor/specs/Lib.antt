@@ -1,4 +1,9 @@
 pub mod Spelling
 pub mod Plain
-pub mod Fault
+pub mod Keys
+pub mod HeadRows
+pub mod CidReading
 pub mod Reading
+pub mod Nesting
+pub mod Faults
+pub mod Links

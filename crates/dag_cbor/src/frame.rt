@@ -1,44 +1,46 @@
-ghost use Rattle.std.specs.Prelude.{◌≡◌, [], ◌∷◌, ◌++◌, IfOk, OnOk};
-ghost use Rattle.dag_cbor.specs.declared.value.Value.TheVariants as variants;
+ghost use Rattle.std.specs.Prelude.{IfOk};
+ghost use Rattle.dag_cbor.specs.Nesting.{IsPut};
 
+use crate::partial::Partial;
 use crate::value::Value;
-use fil_base::Mem;
-use sqlite_items::Items;
-use std::alloc::Global;
+use fil_base::{Bytes, Mem};
 
-/// The most items that a list has room for before any is read, so that a claimed count takes no memory.
-const MOST_ROOM: u64 = 16;
-
-/// A list that is being read.
+/// A list or a map of which an item is being read.
 #[derive(Drop)]
-pub struct Frame {
-    /// The items that were read.
-    pub done: Vec<Value>,
+pub enum Frame {
+    /// The items before it, and how many are wanted after it.
+    List {
+        done: Vec<Value>,
+        wanted: u64,
+    },
 
-    /// How many items are still wanted, the one that is being read not among them.
-    pub wanted: u64,
+    /// The pairs before it, how many are wanted after it, and its key.
+    Map {
+        done: Vec<(Bytes, Value)>,
+        wanted: u64,
+        key: Bytes,
+    },
 }
 
 impl Frame {
-    /// A list of so many items, of which none is read.
+    /// The list or the map with the item put to it.
     #[inline(always)]
-    pub fn of(alloc: Global, count: u64) -> Mem<Frame>
-        ensures done { IfOk result (λ frame. frame.done.items ≡ []) }
-        ensures wanted { IfOk result (λ frame. frame.wanted ≡ count) }
+    pub fn put(self, value: Value) -> Mem<Partial>
+        ensures { IfOk result (λ partial. IsPut partial self value) }
     {
-        let room = count.min(MOST_ROOM);
-        Ok(Frame {
-            done: Vec::with_capacity(alloc, room as usize)?,
-            wanted: count,
-        })
-    }
-
-    /// The list of the items that were read.
-    #[inline(always)]
-    pub fn into_list(self) -> Value
-        ensures { result ≡ variants.List self.done.items }
-    {
-        let Frame { done, .. } = self;
-        Value::List(Items::from_vec(done))
+        match self {
+            Frame::List { mut done, wanted } => {
+                done.push(value)?;
+                Ok(Partial::List { done, wanted })
+            }
+            Frame::Map {
+                mut done,
+                wanted,
+                key,
+            } => {
+                done.push((key, value))?;
+                Ok(Partial::Map { done, wanted })
+            }
+        }
     }
 }

@@ -1,5 +1,5 @@
-//! DAG-CBOR (RFC 8949 and the IPLD DAG-CBOR specification) of integers, byte strings and lists: heads are
-//! shortest, lengths definite, and nesting is at most 128.
+//! DAG-CBOR (RFC 8949 and the IPLD DAG-CBOR specification) without floating-point numbers: heads are shortest,
+//! lengths definite, maps by rising text keys, tag 42 the only tag, and nesting is at most 128.
 //!
 //! ```text
 //! let value = decode(alloc, &[0x82, 0x01, 0x40])?;
@@ -8,18 +8,32 @@
 #![tactic(auto)]
 
 mod decoding;
+mod encoding;
 mod fault;
 mod frame;
 mod head;
+mod key;
 mod laws;
-mod list;
+mod link;
+mod link_list;
+mod nested;
+mod partial;
+mod plain;
+mod rows;
+mod text;
 mod token;
 mod value;
+mod writing;
 
 pub use decoding::{MAX_DEPTH, decode};
+pub use encoding::encode;
 pub use fault::{CborFault, CborKind};
-pub use laws::one_spelling;
+pub use laws::{one_fault, one_spelling};
+pub use link_list::{links, links_in};
+pub use plain::is_plain;
 pub use value::Value;
 
+#[cfg(test)]
+mod encode_tests;
 #[cfg(test)]
 mod tests;

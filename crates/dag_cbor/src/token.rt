@@ -1,39 +1,53 @@
-ghost use Rattle.dag_cbor.specs.Reading.{GivesOrNoMemory, blob_at, token_after, token_at};
+ghost use Rattle.std.specs.Prelude.{◌≡◌};
+ghost use Rattle.dag_cbor.specs.Reading.{GivesOrNoMemory, blob_at, simple, token_after, token_at};
 
-use crate::fault::CborKind;
-use crate::head::{BYTES, Head, LIST, NATURAL, NEGATIVE, head_of};
+use crate::fault::{CborKind, Flaw};
+use crate::head::{BYTES, Head, LIST, MAP, NATURAL, NEGATIVE, TAG, TEXT, head_of};
+use crate::link::link_of;
+use crate::text::{blob_of, owned, text_of};
 use crate::value::Value;
-use fil_base::{Bytes, Failure};
+use fil_base::Failure;
 use std::alloc::Global;
 
 /// What stands at the front of an item.
 #[derive(Drop)]
 pub enum Token {
-    /// An item that is no list.
+    /// An item that is no list and no map.
     Whole(Value),
 
     /// The head of a list of so many items.
-    Open(u64),
+    List(u64),
+
+    /// The head of a map of so many pairs.
+    Map(u64),
 }
 
-/// The token at the front, and the bytes after it.
+/// The token at the front, of an item for which so much depth is left, and the bytes after it.
 #[inline(always)]
 #[tactic(auto, unfolding(crate::specs::Reading::token_at))]
-pub fn token_of(alloc: Global, bytes: &[u8]) -> Result<(Token, &[u8]), Failure<CborKind>>
-    ensures { GivesOrNoMemory (λ x. (x.0, x.1.now)) result (token_at bytes.now) }
+pub fn token_of(alloc: Global, room: u64, bytes: &[u8]) -> Result<(Token, &[u8]), Failure<Flaw>>
+    ensures { GivesOrNoMemory (λ x. (x.0, x.1.now)) result (token_at room bytes.now) }
 {
+    let left = bytes.len() as u64;
     let (head, rest) = head_of(bytes)?;
-    token_behind(alloc, head, rest)
+    if room == 0 {
+        return Err(Failure::Fault(Flaw {
+            kind: CborKind::Depth,
+            left,
+        }));
+    }
+    token_behind(alloc, left, head, rest)
 }
 
-/// The token whose head was this one.
+/// The token whose head was this one, with so many bytes left at the head.
 #[inline(always)]
 fn token_behind(
     alloc: Global,
+    left: u64,
     head: Head,
     bytes: &[u8],
-) -> Result<(Token, &[u8]), Failure<CborKind>>
-    ensures { GivesOrNoMemory (λ x. (x.0, x.1.now)) result (token_after head bytes.now) }
+) -> Result<(Token, &[u8]), Failure<Flaw>>
+    ensures { GivesOrNoMemory (λ x. (x.0, x.1.now)) result (token_after left (head, bytes.now)) }
 {
     match head.major {
         NATURAL => Ok((Token::Whole(Value::Int(i128::from(head.number))), bytes)),
@@ -42,24 +56,31 @@ fn token_behind(
             bytes,
         )),
         BYTES => {
-            let (blob, rest) = blob_of(alloc, head.number, bytes)?;
-            Ok((Token::Whole(Value::Blob(blob)), rest))
+            let (blob, rest) = blob_of(head.number, bytes)?;
+            Ok((Token::Whole(Value::Blob(owned(alloc, blob)?)), rest))
         }
-        LIST => Ok((Token::Open(head.number), bytes)),
-        _ => Err(Failure::Fault(CborKind::NoItem)),
+        TEXT => {
+            let (text, rest) = text_of(left, head.number, bytes)?;
+            Ok((Token::Whole(Value::Text(owned(alloc, text)?)), rest))
+        }
+        LIST => Ok((Token::List(head.number), bytes)),
+        MAP => Ok((Token::Map(head.number), bytes)),
+        TAG => {
+            let (cid, rest) = link_of(alloc, left, bytes)?;
+            Ok((Token::Whole(Value::Link(cid)), rest))
+        }
+        _ => Ok((Token::Whole(simple_of(head.number)), bytes)),
     }
 }
 
-/// The byte string of this length at the front, and the bytes after it.
+/// False, true or null.
 #[inline(always)]
-#[tactic(auto, unfolding(crate::specs::Reading::blob_at))]
-fn blob_of(alloc: Global, len: u64, bytes: &[u8]) -> Result<(Bytes, &[u8]), Failure<CborKind>>
-    ensures { GivesOrNoMemory (λ x. (x.0, x.1.now)) result (blob_at len bytes.now) }
+fn simple_of(number: u64) -> Value
+    ensures { result ≡ simple number }
 {
-    if len > bytes.len() as u64 {
-        return Err(Failure::Fault(CborKind::NoItem));
+    match number {
+        20 => Value::Bool(false),
+        21 => Value::Bool(true),
+        _ => Value::Null,
     }
-    let (front, rest) = bytes.split_at(len as usize);
-    let blob = Vec::from_slice(alloc, front)?;
-    Ok((Bytes::of(blob), rest))
 }

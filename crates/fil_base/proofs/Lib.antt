@@ -1,1 +1,5 @@
+pub mod Base32Text
+pub mod Cids
 pub mod Magnitude
+pub mod Regroups
+pub mod Varints

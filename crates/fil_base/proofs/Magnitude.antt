@@ -1,10 +1,10 @@
 -- The digits of a number in base 256 are the digits that it was made of.
-use Rattle.std.proofs.Common.{suc, zero, take, ◌≡◌, ℕ, ◌+◌, ◌*◌, ◌/◌, ◌%◌, ◌^◌, ◌<◌, ◌≤◌, List, [], ◌∷◌, ◌++◌, length, get_or, Option, None, Some, Result, MatchResult, ◌⊎◌, inl, inr, refl, sym, ap, subst, ◌∙◌, append_assoc, lit<, lit≤, arith}
+use Rattle.std.proofs.Common.{suc, zero, set, take, drop, ◌-◌, ◌≡◌, ℕ, ◌+◌, ◌*◌, ◌/◌, ◌%◌, ◌^◌, ◌<◌, ◌≤◌, List, [], ◌∷◌, ◌++◌, length, get_or, Option, None, Some, Result, MatchResult, ◌⊎◌, inl, inr, refl, sym, ap, subst, ◌∙◌, append_assoc, lit<, lit≤, arith}
 use Rattle.std.specs.Int.Digits.{digits_of, number_from_digits, number_from_digits_after, AllBelowBase}
 use Rattle.std.specs.Option.{SomeIff, ok_or}
 use Rattle.std.proofs.lemmas.Int.Digits.{digits_of_step, length-digits_of-le, number_after_ge, number_lt, same_from_digits_of, first_digits_of}
 use Rattle.std.proofs.lemmas.Bool.{cases_lt}
-use Rattle.std.proofs.lemmas.List.{append-nil, length-take}
+use Rattle.std.proofs.lemmas.List.{append-nil, drop-set, length-take}
 use Rattle.std.proofs.Math.Nat.{pow-le-pow_right}
 use Rattle.std.proofs.Math.Dec.{eqb-suc-zero}
 use Rattle.fil_base.specs.declared.token.TheConstants.{GREATEST_AMOUNT}
@@ -120,3 +120,28 @@ refused_is_no_amount bytes Sign n (sign, rest, not_zero, is) small same = not_ze
 refused_is_no_amount bytes Zeros n (inl is) small same = omega (arith, (after_sign 0 [] n (sym is ∙ same)).1)
 refused_is_no_amount bytes Zeros n (inr (rest, is)) small same = omega (arith, (after_sign 0 (0 ∷ rest) n (sym is ∙ same)).1)
 refused_is_no_amount bytes TooGreat n (m, great, is) small same = omega (arith, same_amounts m n (sym is ∙ same))
+
+fewer_by : (start left : ℕ) → 0 < left → left < 256 ^ start → (0 < start) × (left / 256 < 256 ^ (start - 1))
+fewer_by zero left positive small = absurd (omega arith)
+fewer_by (suc start) left positive small =
+    let before : start ≡ suc start - 1 = omega arith in
+    (omega arith, subst (λ k. left / 256 < 256 ^ k) before (omega arith))
+
+-- one digit more is written, before the others
+pub digit_more : (ds : List ℕ) (n start left : ℕ) → start ≤ 12 → length ds ≡ 12 → 0 < left → left < 256 ^ start → digits_of 256 left ++ drop start ds ≡ digits_of 256 n → (0 < start) × (left / 256 < 256 ^ (start - 1)) × (digits_of 256 (left / 256) ++ drop (start - 1) (set ds (start - 1) (left % 256)) ≡ digits_of 256 n)
+digit_more ds n start left within size positive small is =
+    let by = fewer_by start left positive small in
+    let place : (start - 1) + 1 ≡ start = omega (arith, by.0) in
+    let back : drop (start - 1) (set ds (start - 1) (left % 256)) ≡ (left % 256) ∷ drop start ds = drop-set ds (start - 1) (left % 256) (omega (arith, by.0)) ∙ ap (λ k. (left % 256) ∷ drop k ds) place in
+    (by.0, by.1, ap (λ b. digits_of 256 (left / 256) ++ b) back ∙ (sym (append_assoc (digits_of 256 (left / 256)) (left % 256 ∷ []) (drop start ds)) ∙ (ap (λ b. b ++ drop start ds) (sym (digits_of_step 256 left (lit≤ tt) positive)) ∙ is)))
+
+pub magnitude_start : (n : ℕ) → n ≤ GREATEST_AMOUNT → n < 256 ^ 12
+magnitude_start n small = le_lt_trans small (lit< tt)
+
+pub spelled_zero : (n : ℕ) (old bytes : List ℕ) → n ≡ 0 → old ≡ [] → bytes ≡ old → bytes ≡ amount n
+unfolding amount
+spelled_zero n old bytes zero_n empty same = same ∙ (empty ∙ ap amount (sym zero_n))
+
+pub spelled_more : (n : ℕ) (none signed digits whole bytes : List ℕ) → (n ≡ 0 → ⊥) → none ≡ [] → signed ≡ none ++ (0 ∷ []) → digits ≡ digits_of 256 n → whole ≡ signed ++ digits → bytes ≡ whole → bytes ≡ amount n
+spelled_more n none signed digits whole bytes not_0 empty sign is joined same =
+    same ∙ (joined ∙ ((λ i. (sign ∙ ap (λ b. b ++ (0 ∷ [])) empty) i ++ is i) ∙ sym (amount-positive n (omega (arith, not_0)))))

@@ -1,2 +1,11 @@
 pub mod Amount
+pub mod Base32
+pub mod CidBytes
+pub mod CidEquality
+pub mod CidFault
+pub mod CidParts
+pub mod ErrNo
 pub mod Failure
+pub mod Regroup
+pub mod Varint
+pub mod VarintFault

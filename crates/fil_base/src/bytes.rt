@@ -1,5 +1,7 @@
-ghost use Rattle.std.specs.Prelude.{◌≡◌};
+ghost use Rattle.std.specs.Prelude.{◌≡◌, IfOk};
 
+use crate::failure::Mem;
+use std::alloc::Global;
 use std::marker::Model;
 
 /// Bytes that contracts see as a list.
@@ -22,6 +24,14 @@ impl Bytes {
         ensures { result ≡ bytes.items }
     {
         Bytes { inner: bytes }
+    }
+
+    /// A copy of these bytes.
+    pub fn copy_of(alloc: Global, bytes: &[u8]) -> Mem<Bytes>
+        ensures { IfOk result (λ copy. copy ≡ bytes.now) }
+    {
+        let copy = Vec::from_slice(alloc, bytes)?;
+        Ok(Bytes { inner: copy })
     }
 
     pub fn as_slice(&self) -> &[u8]

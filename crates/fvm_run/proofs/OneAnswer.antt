@@ -2,7 +2,8 @@
 use Rattle.std.proofs.Common.{◌≡◌, ◌⊎◌, ◌<◌, ◌≤◌, inl, inr, ℕ, List, [], ◌++◌, Result, Ok, Err, length, refl, sym, ap, ◌∙◌, arith}
 use Rattle.dag_cbor.specs.declared.value.Value.{Value}
 use Rattle.dag_cbor.specs.declared.fault.CborFault.{CborFault}
-use Rattle.dag_cbor.specs.Fault.{IsFault}
+use Rattle.dag_cbor.specs.Faults.{IsFault}
+use Rattle.dag_cbor.proofs.OneFault.{one_fault, nothing_spelled}
 use Rattle.dag_cbor.proofs.OneSpelling.{one_spelling}
 use Rattle.tipset_exec.specs.declared.form0.Form0.{Form0}
 use Rattle.tipset_exec.specs.declared.reading.FormFault.{FormFault}
@@ -28,12 +29,6 @@ one_text : (input : List ℕ) (f g : Form0) (t u : List ℕ) → Spells input (f
 one_text input f g t u spells_f spells_g is_t is_u =
     is_t ∙ (ap (λ form. report_text (report_of form)) (same_forms f g (one_value input (form_value f) (form_value g) spells_f spells_g)) ∙ sym is_u)
 
-one_cbor_fault : (input : List ℕ) (a b : CborFault) → IsFault input a → IsFault input b → a ≡ b
-one_cbor_fault input a b fault_a fault_b =
-    let kinds = fault_a.kind ∙ sym fault_b.kind in
-    let places = fault_a.at ∙ sym fault_b.at in
-    λ i. record { kind = kinds i; at = places i }
-
 one_form_fault : (a b : FormFault) → a ≡ b
 one_form_fault Shape Shape = refl
 
@@ -41,7 +36,7 @@ one_form_fault Shape Shape = refl
 not_both : (input : List ℕ) (t : List ℕ) (refusal : Refusal) → IsRunAnswer input (Ok t) → IsRunAnswer input (Err refusal) → ⊥
 not_both input t TooLong answers other = other
 not_both input t CarNotBuilt answers other = other answers.0
-not_both input t (Cbor fault) (begins, f, sound, spells, is_t) (_, none) = none.nothing (form_value f) spells.plain spells.bytes
+not_both input t (Cbor fault) (begins, f, sound, spells, is_t) (_, none) = nothing_spelled input fault none (form_value f) spells.plain spells.bytes
 not_both input t (Form Shape) (begins, f, sound, spells, is_t) (_, value, spells', none) = none f sound (one_value input value (form_value f) spells' spells)
 
 one_refusal : (input : List ℕ) (a b : Refusal) → IsRunAnswer input (Err a) → IsRunAnswer input (Err b) → a ≡ b
@@ -52,11 +47,11 @@ one_refusal input CarNotBuilt (Cbor fault) answers other = absurd (answers other
 one_refusal input CarNotBuilt (Form fault) answers other = absurd (answers other.0)
 one_refusal input (Cbor a) TooLong answers other = absurd other
 one_refusal input (Cbor a) CarNotBuilt answers other = absurd (other answers.0)
-one_refusal input (Cbor a) (Cbor b) answers other = ap Cbor (one_cbor_fault input a b answers.1 other.1)
-one_refusal input (Cbor a) (Form b) (_, none) (_, value, spells, _) = absurd (none.nothing value spells.plain spells.bytes)
+one_refusal input (Cbor a) (Cbor b) answers other = ap Cbor (one_fault input a b answers.1 other.1)
+one_refusal input (Cbor a) (Form b) (_, none) (_, value, spells, _) = absurd (nothing_spelled input a none value spells.plain spells.bytes)
 one_refusal input (Form a) TooLong answers other = absurd other
 one_refusal input (Form a) CarNotBuilt answers other = absurd (other answers.0)
-one_refusal input (Form a) (Cbor b) (_, value, spells, _) (_, none) = absurd (none.nothing value spells.plain spells.bytes)
+one_refusal input (Form a) (Cbor b) (_, value, spells, _) (_, none) = absurd (nothing_spelled input b none value spells.plain spells.bytes)
 one_refusal input (Form a) (Form b) answers other = ap Form (one_form_fault a b)
 
 one_run_answer : (input : List ℕ) (a b : Result (List ℕ) Refusal) → IsRunAnswer input a → IsRunAnswer input b → a ≡ b

@@ -4,7 +4,7 @@ use Rattle.dag_cbor.specs.declared.value.Value.{Value}
 use Rattle.dag_cbor.specs.declared.decoding.TheConstants.{MAX_DEPTH}
 use Rattle.dag_cbor.specs.Plain.{IsPlain}
 use Rattle.dag_cbor.specs.Spelling.{spelled}
-use Rattle.dag_cbor.specs.Fault.{IsFault}
+use Rattle.dag_cbor.specs.Faults.{IsFault}
 use Rattle.tipset_exec.specs.declared.form0.Form0.{Form0}
 use Rattle.tipset_exec.specs.Layout.{form_value}
 use Rattle.tipset_exec.specs.Sound.{IsForm0}

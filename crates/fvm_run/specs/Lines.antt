@@ -2,7 +2,7 @@
 use Rattle.std.specs.Prelude.{ℕ, List, [], ◌++◌, codes}
 use Rattle.std.specs.Fmt.{decimal}
 use Rattle.dag_cbor.specs.declared.fault.CborKind.{CborKind}
-use Rattle.dag_cbor.specs.declared.fault.CborKind.TheVariants.{NoItem}
+use Rattle.dag_cbor.specs.declared.fault.CborKind.TheVariants.{Cut, LongHead, Reserved, Indefinite, Float, Simple, Tag, LinkForm, Utf8, KeyKind, KeyOrder, KeyRepeat, Depth, Trailing}
 use Rattle.tipset_exec.specs.declared.reading.FormFault.{FormFault}
 use Rattle.tipset_exec.specs.declared.reading.FormFault.TheVariants.{Shape}
 use Rattle.fvm_run.specs.declared.refusal.Refusal.{Refusal}
@@ -11,7 +11,20 @@ use Rattle.fvm_run.specs.declared.status.Status.{Status}
 use Rattle.fvm_run.specs.declared.status.Status.TheVariants.{Done, Usage, Refused, ReadFault, WriteFault, NoMemory}
 
 abbrev pub cbor_kind : CborKind → List ℕ
-cbor_kind NoItem = codes "NoItem"
+cbor_kind Cut = codes "Cut"
+cbor_kind LongHead = codes "LongHead"
+cbor_kind Reserved = codes "Reserved"
+cbor_kind Indefinite = codes "Indefinite"
+cbor_kind Float = codes "Float"
+cbor_kind Simple = codes "Simple"
+cbor_kind Tag = codes "Tag"
+cbor_kind LinkForm = codes "LinkForm"
+cbor_kind Utf8 = codes "Utf8"
+cbor_kind KeyKind = codes "KeyKind"
+cbor_kind KeyOrder = codes "KeyOrder"
+cbor_kind KeyRepeat = codes "KeyRepeat"
+cbor_kind Depth = codes "Depth"
+cbor_kind Trailing = codes "Trailing"
 
 abbrev pub form_kind : FormFault → List ℕ
 form_kind Shape = codes "Shape"

@@ -68,7 +68,20 @@ fn cbor_kind_text(kind: CborKind) -> &'static [u8]
     ensures { result.now ≡ cbor_kind kind }
 {
     match kind {
-        CborKind::NoItem => b"NoItem",
+        CborKind::Cut => b"Cut",
+        CborKind::LongHead => b"LongHead",
+        CborKind::Reserved => b"Reserved",
+        CborKind::Indefinite => b"Indefinite",
+        CborKind::Float => b"Float",
+        CborKind::Simple => b"Simple",
+        CborKind::Tag => b"Tag",
+        CborKind::LinkForm => b"LinkForm",
+        CborKind::Utf8 => b"Utf8",
+        CborKind::KeyKind => b"KeyKind",
+        CborKind::KeyOrder => b"KeyOrder",
+        CborKind::KeyRepeat => b"KeyRepeat",
+        CborKind::Depth => b"Depth",
+        CborKind::Trailing => b"Trailing",
     }
 }
 

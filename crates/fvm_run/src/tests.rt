@@ -82,11 +82,11 @@ fn refusals_have_a_line_each(rt: HostRuntime) -> Result<(), Fail> {
     let words = words_of(rt.alloc(), &["run"])?;
     let table: [(&[u8], &[u8]); 8] = [
         (b"", b"refused CarNotBuilt\n"),
-        (b"\x84", b"refused CarNotBuilt\n"),
         (b"\x84\x01\x00\x80\x80", b"refused CarNotBuilt\n"),
-        (b"\x84\x00\x00\x80", b"refused cbor NoItem 0\n"),
-        (b"\x84\x00\x00\x80\x80\x00", b"refused cbor NoItem 0\n"),
-        (b"\x84\x00\x18\x17\x80\x80", b"refused cbor NoItem 0\n"),
+        (b"\x84\x00\x00\x80", b"refused cbor Cut 4\n"),
+        (b"\x84\x00\x00\x80\x80\x00", b"refused cbor Trailing 5\n"),
+        (b"\x84\x00\x18\x17\x80\x80", b"refused cbor LongHead 2\n"),
+        (b"\x84\x00\x60\x80\x80", b"refused form Shape\n"),
         (b"\x84\x00\x20\x80\x80", b"refused form Shape\n"),
         (
             b"\x84\x00\x00\x81\x83\x00\x00\x42\x01\x05\x80",

@@ -1,0 +1,5 @@
+pub mod Tables
+pub mod Compression
+pub mod Blake
+pub mod Chain
+pub mod Hasher

@@ -1,0 +1,58 @@
+ghost use Rattle.std.specs.Prelude.{◌≡◌, IfOk};
+ghost use Rattle.dag_cbor.specs.CidReading.{cid_of};
+ghost use Rattle.dag_cbor.specs.Reading.{GivesOrNoMemory, linked, link_at};
+
+use crate::fault::{CborKind, Flaw};
+use crate::head::{BYTES, head_of};
+use crate::text::blob_of;
+use fil_base::{Cid, Failure, Mem, NoMemory, read_cid};
+use std::alloc::Global;
+
+/// The CID behind a link's tag, and the bytes after it, with so many bytes left at the tag.
+#[tactic(auto, unfolding(crate::specs::Reading::link_at))]
+pub fn link_of(alloc: Global, left: u64, bytes: &[u8]) -> Result<(Cid, &[u8]), Failure<Flaw>>
+    ensures { GivesOrNoMemory (λ x. (x.0, x.1.now)) result (link_at left bytes.now) }
+{
+    let (head, after) = head_of(bytes)?;
+    if head.major != BYTES {
+        return Err(Failure::Fault(Flaw {
+            kind: CborKind::LinkForm,
+            left,
+        }));
+    }
+    let (blob, rest) = blob_of(head.number, after)?;
+    match cid_in(alloc, blob)? {
+        None => Err(Failure::Fault(Flaw {
+            kind: CborKind::LinkForm,
+            left,
+        })),
+        Some(cid) => Ok((cid, rest)),
+    }
+}
+
+/// The CID behind a byte 00, if these bytes are no more and no less.
+fn cid_in(alloc: Global, bytes: &[u8]) -> Mem<Option<Cid>>
+    ensures { IfOk result (λ cid. cid ≡ linked bytes.now) }
+{
+    match bytes.split_first() {
+        Some((0, rest)) => whole_cid(alloc, rest),
+        _ => Ok(None),
+    }
+}
+
+/// The CID that these bytes spell, if they do.
+fn whole_cid(alloc: Global, bytes: &[u8]) -> Mem<Option<Cid>>
+    ensures { IfOk result (λ cid. cid ≡ cid_of bytes.now) }
+{
+    match read_cid(alloc, bytes) {
+        Ok((cid, len)) => {
+            if len == bytes.len() {
+                Ok(Some(cid))
+            } else {
+                Ok(None)
+            }
+        }
+        Err(Failure::NoMemory) => Err(NoMemory),
+        Err(Failure::Fault(_)) => Ok(None),
+    }
+}
