@@ -1,0 +1,4 @@
+pub mod Found
+pub mod Indexes
+pub mod Ranks
+pub mod SortedNames

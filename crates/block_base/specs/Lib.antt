@@ -1,0 +1,4 @@
+pub mod Base
+pub mod Index
+pub mod Names
+pub mod Order

@@ -1,0 +1,12 @@
+pub mod Archives
+pub mod CarReading
+pub mod FrameLemmas
+pub mod Framing
+pub mod Headers
+pub mod Lengths
+pub mod Pairs
+pub mod ReadingHeaders
+pub mod SectionLemmas
+pub mod SectionRuns
+pub mod Sections
+pub mod WritingSteps

@@ -1,0 +1,6 @@
+pub mod Car
+pub mod CarFault
+pub mod Frame
+pub mod Place
+pub mod Reader
+pub mod Sections

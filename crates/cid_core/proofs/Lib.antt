@@ -1,0 +1,2 @@
+pub mod CidTexts
+pub mod Digests

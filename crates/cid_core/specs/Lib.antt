@@ -1,0 +1,4 @@
+pub mod BlockParts
+pub mod BlockFault
+pub mod CidOf
+pub mod CidText

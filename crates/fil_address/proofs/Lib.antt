@@ -1,0 +1,10 @@
+pub mod BytesFaults
+pub mod Checksums
+pub mod Cuts
+pub mod Decimals
+pub mod Letters
+pub mod OneAddress
+pub mod OneText
+pub mod OneTextFault
+pub mod Protocols
+pub mod TextFaults

@@ -1,0 +1,3 @@
+pub mod AddressBytes
+pub mod AddressText
+pub mod AddressFault

@@ -1,0 +1,2 @@
+pub mod MeterState
+pub mod Prices
