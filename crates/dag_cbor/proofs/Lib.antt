@@ -8,7 +8,7 @@ mod Numbers
 mod Heads
 mod Tokens
 mod Items
-mod Whole
+pub mod Whole
 mod Through
 mod RowReads
 mod Blame

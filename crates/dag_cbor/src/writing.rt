@@ -5,10 +5,8 @@ ghost use Rattle.dag_cbor.specs.Plain.{IsPlain, IsPlainLayer};
 ghost use Rattle.dag_cbor.specs.Spelling.{head, spelled_layer};
 
 use crate::head::{BYTES, NATURAL, NEGATIVE, SIMPLE, TAG};
+use crate::rows::LINK;
 use fil_base::{Cid, Mem, write_cid};
-
-/// The tag of a link.
-const LINK: u64 = 42;
 
 /// Writes a head behind the bytes that are there.
 #[tactic(auto, unfolding(crate::specs::Spelling::head))]

@@ -1,0 +1,9 @@
+pub mod Pairs
+pub mod Node
+pub mod Groups
+pub mod Walk
+pub mod Holds
+pub mod Flushing
+pub mod Stands
+pub mod ReadPointers
+pub mod Loading

@@ -1,0 +1,30 @@
+//! Hash array mapped tries: finite maps from bytes to DAG-CBOR values with canonical roots (the IPLD HashMap
+//! specification, with SHA2-256, a bit width of 5 and buckets of 3).
+//!
+//! ```text
+//! let mut tree = Hamt::load(alloc, &base, &root)?;
+//! let old = tree.set(&base, key, value)?;
+//! let (root, blocks) = tree.flush(&base)?;        // the new root, and the nodes that the base does not hold
+//! ```
+#![tactic(auto)]
+
+mod bit_field;
+mod fault;
+mod flushing;
+mod groups;
+mod hamt;
+mod hashed;
+mod laws;
+mod loading;
+mod node_form;
+mod nodes;
+mod pairs;
+
+pub use fault::HamtFault;
+pub use hamt::Hamt;
+pub use laws::{one_map, one_order};
+
+#[cfg(test)]
+mod load_tests;
+#[cfg(test)]
+mod tests;
