@@ -1,0 +1,20 @@
+use Rattle.std.proofs.Common.{◌∙◌, ◌-◌, ◌^◌, []}
+use Rattle.wasm_decode.specs.ReadingSections.{import_at}
+use Rattle.wasm_decode.specs.ReadingValues.{vector_at}
+use Rattle.std.proofs.lemmas.Result.{err_from_is_err_and}
+use Rattle.wasm_decode.proofs.Sections.{absent_is, begun_is, section_stops}
+use Rattle.wasm_decode.proofs.import.import_section_of.Goals as goal
+
+pub returns-in-Absent : goal.returns-in-Absent
+returns-in-Absent c =
+    absent_is 2 [] c.of.result (vector_at (2 ^ 32 - 1) (import_at c.args.types.now)) c.args.bytes.now c.in_ok-opening.opening c.in-Absent.rest c.in_ok-opening.ensures c.in-Absent.is (c.of.ensures ∙ c.new.ensures.items)
+
+pub returns-in-Begun : goal.returns-in-Begun
+returns-in-Begun c =
+    rw (begun_is 2 [] (vector_at (2 ^ 32 - 1) (import_at c.args.types.now)) c.args.bytes.now c.in_ok-opening.opening c.in-Begun.part c.in_ok-opening.ensures c.in-Begun.is)
+    (c.close.ensures ((vector_at (2 ^ 32 - 1) (import_at c.args.types.now)) c.in-Begun.part.content.now) c.imports_of.ensures)
+
+pub returns-in_err-opening : goal.returns-in_err-opening
+returns-in_err-opening c =
+    let p = err_from_is_err_and c.from_residual.result c.from_residual.ensures.1 in
+    rw (p.1, p.2) (section_stops 2 [] (vector_at (2 ^ 32 - 1) (import_at c.args.types.now)) c.args.bytes.now c.in_err-opening.field-0.0 c.in_err-opening.ensures)

@@ -1,0 +1,5 @@
+pub mod Calls
+pub mod Prices
+pub mod SameTypes
+pub mod Table
+pub mod Typings

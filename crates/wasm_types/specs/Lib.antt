@@ -1,0 +1,5 @@
+pub mod Accesses
+pub mod Opcodes
+pub mod Ops
+pub mod Signatures
+pub mod Syscalls
