@@ -30,7 +30,7 @@ pub use encoding::encode;
 pub use fault::{CborFault, CborKind};
 pub use laws::{one_fault, one_spelling};
 pub use link_list::{links, links_in};
-pub use plain::is_plain;
+pub use plain::{is_plain, is_plain_within};
 pub use value::Value;
 
 #[cfg(test)]

@@ -21,7 +21,7 @@ pub fn is_plain(value: &Value) -> bool
 
 /// Whether a value has a spelling, and at most this depth.
 #[cycle(judging)]
-fn is_plain_within(depth: u64, value: &Value) -> bool
+pub fn is_plain_within(depth: u64, value: &Value) -> bool
     ensures { IsTrue result ↔ IsPlain depth value.now }
 {
     if depth == 0 {

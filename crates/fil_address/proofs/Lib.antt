@@ -1,3 +1,5 @@
+pub mod AddressLengths
+pub mod AddressReads
 pub mod BytesFaults
 pub mod Checksums
 pub mod Cuts

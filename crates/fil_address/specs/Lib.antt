@@ -1,3 +1,4 @@
 pub mod AddressBytes
+pub mod AddressReading
 pub mod AddressText
 pub mod AddressFault

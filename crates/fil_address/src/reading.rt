@@ -1,6 +1,7 @@
-ghost use Rattle.std.specs.Prelude.{◌≡◌, ◌≢◌, ◌∷◌, ◌<◌, ◌^◌, ℕ, IfErr, IfOk, length};
+ghost use Rattle.std.specs.Prelude.{◌≡◌, ◌≢◌, ◌∷◌, ◌<◌, ◌^◌, ℕ, IfErr, IfOk, None, OnErr, Some, length};
 ghost use Rattle.fil_base.specs.Varint.{varint};
 ghost use Rattle.fil_address.specs.AddressBytes.{AreBytes, IsAddress, address};
+ghost use Rattle.fil_address.specs.AddressReading.{address_in};
 ghost use Rattle.fil_address.specs.AddressFault.{IsBytesFault};
 ghost use Rattle.fil_address.specs.declared.fault.AddressFault.TheVariants.{Length, Number};
 
@@ -13,6 +14,8 @@ use fil_base::{ActorId, read_varint};
 pub fn from_bytes(bytes: &[u8]) -> Result<Address, AddressFault>
     ensures found { IfOk result (λ a. IsAddress a × (bytes.now ≡ address a)) }
     ensures fault { IfErr result (IsBytesFault bytes.now) }
+    ensures read { IfOk result (λ a. address_in bytes.now ≡ Some a) }
+    ensures none { OnErr result (address_in bytes.now ≡ None) }
 {
     let [protocol, payload @ ..] = bytes else {
         return Err(AddressFault::Empty);

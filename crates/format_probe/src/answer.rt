@@ -1,5 +1,6 @@
+use crate::tree_work::{Kind, tree_work};
 use crate::unanswered::{Answer, Unanswered};
-use crate::{addresses, amounts, cars, cbor, cids, hashes, varints};
+use crate::{addresses, amounts, amts, cars, cbor, cids, hamts, hashes, varints};
 use std::alloc::{AllocError, Global};
 
 /// The answer to a line, without its end.
@@ -39,6 +40,12 @@ fn answer_of_verb(alloc: Global, line: &[u8]) -> Answer {
         ("carfile", [piece, bytes]) => cars::car_file(alloc, piece, bytes),
         ("carof", [root, blocks @ ..]) => cars::car_of(alloc, root, blocks),
         ("findall", [count]) => cars::find_all(alloc, count),
+        ("hamt", operations) => hamts::hamt(alloc, operations),
+        ("hamtload", [root, blocks @ ..]) => hamts::hamt_load(alloc, root, blocks),
+        ("hamtwork", words) => tree_work(alloc, Kind::Hamt, words),
+        ("amt", operations) => amts::amt(alloc, operations),
+        ("amtload", [root, blocks @ ..]) => amts::amt_load(alloc, root, blocks),
+        ("amtwork", words) => tree_work(alloc, Kind::Amt, words),
         _ => Err(Unanswered::BadLine),
     }
 }

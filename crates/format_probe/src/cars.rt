@@ -1,11 +1,12 @@
 ghost use Rattle.std.specs.Prelude.{◌<◌};
 
+use crate::trees::cid_of_word;
 use crate::unanswered::{Answer, Unanswered};
 use crate::words::{bytes_of, hex_of, hex_of_cid, number_in};
 use block_base::Base;
 use car_file::{Car, CarFault, CarReader, write_car};
 use cid_core::{Block, BlockSource, cid_of};
-use fil_base::{Bytes, Cid, Failure, Mem, Row, read_cid};
+use fil_base::{Bytes, Failure, Mem, Row};
 use std::alloc::Global;
 
 const RAW: u64 = 0x55;
@@ -49,7 +50,7 @@ fn root_and_cids(alloc: Global, car: Car) -> Answer {
 
 /// `carof ROOT B1 B2 ..`: the archive of the raw blocks under the root.
 pub fn car_of(alloc: Global, root: &[u8], blocks: &[&[u8]]) -> Answer {
-    let root = whole_cid(alloc, root)?;
+    let root = cid_of_word(alloc, root)?;
     let mut row = Vec::new(alloc);
     for word in blocks {
         let bytes = Bytes::of(bytes_of(alloc, word)?);
@@ -57,15 +58,6 @@ pub fn car_of(alloc: Global, root: &[u8], blocks: &[&[u8]]) -> Answer {
     }
     let archive = write_car(alloc, &root, &row)?;
     Ok(hex_of(alloc, archive.as_slice())?)
-}
-
-fn whole_cid(alloc: Global, word: &[u8]) -> Result<Cid, Unanswered> {
-    let bytes = bytes_of(alloc, word)?;
-    match read_cid(alloc, &bytes) {
-        Ok((cid, length)) if length == bytes.len() => Ok(cid),
-        Err(Failure::NoMemory) => Err(Unanswered::NoMemory),
-        _ => Err(Unanswered::BadLine),
-    }
 }
 
 /// `findall N`: whether the base of N raw blocks, each of a number from 0 in eight bytes, finds each by its CID; else the

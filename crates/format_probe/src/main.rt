@@ -10,11 +10,15 @@
 
 mod addresses;
 mod amounts;
+mod amts;
 mod answer;
 mod cars;
 mod cbor;
 mod cids;
+mod hamts;
 mod hashes;
+mod tree_work;
+mod trees;
 mod unanswered;
 mod varints;
 mod words;

@@ -5,12 +5,12 @@ use Rattle.dag_cbor.specs.declared.decoding.TheConstants.{MAX_DEPTH}
 use Rattle.dag_cbor.specs.Plain.{IsPlain}
 use Rattle.dag_cbor.specs.Spelling.{spelled}
 use Rattle.dag_cbor.specs.Faults.{IsFault}
-use Rattle.tipset_exec.specs.declared.form0.Form0.{Form0}
-use Rattle.tipset_exec.specs.Layout.{form_value}
-use Rattle.tipset_exec.specs.Sound.{IsForm0}
-use Rattle.tipset_exec.specs.Shape.{IsFormFault}
+use Rattle.fil_message.specs.declared.form0.Form0.{Form0}
+use Rattle.fil_message.specs.Form0Layout.{form_value}
+use Rattle.fil_message.specs.Form0Reading.{form0_of}
+use Rattle.fil_message.specs.Form0Sound.{IsForm0}
+use Rattle.report_text.specs.Form0Text.{form0_text}
 use Rattle.tipset_exec.specs.Report.{report_of}
-use Rattle.tipset_exec.specs.Text.{report_text}
 use Rattle.fvm_run.specs.declared.command.Command.{Command}
 use Rattle.fvm_run.specs.declared.command.Command.TheVariants.{Run}
 use Rattle.fvm_run.specs.declared.input.TheConstants.{INPUT_LIMIT}
@@ -27,13 +27,14 @@ pub record Spells (input : List ℕ) (value : Value) : Type 0 where
   pub bytes : input ≡ spelled value
 
 -- the answer of `run` to an input that is not too long: the text of the report of the account list that it
--- spells; else the refusal of what does not begin so, of what is no DAG-CBOR, of what is no account list
+-- spells; else the refusal of what does not begin so, of what is no DAG-CBOR, of what is no account list, with its
+-- first fault
 abbrev pub IsRunAnswer : List ℕ → Result (List ℕ) Refusal → Type 0
-IsRunAnswer input (Ok text) = BeginsAsList input × (form : Form0) × IsForm0 form × Spells input (form_value form) × (text ≡ report_text (report_of form))
+IsRunAnswer input (Ok text) = BeginsAsList input × (form : Form0) × IsForm0 form × Spells input (form_value form) × (text ≡ form0_text (report_of form))
 IsRunAnswer input (Err TooLong) = ⊥
 IsRunAnswer input (Err CarNotBuilt) = BeginsAsList input → ⊥
 IsRunAnswer input (Err (Cbor fault)) = BeginsAsList input × IsFault input fault
-IsRunAnswer input (Err (Form fault)) = BeginsAsList input × (value : Value) × Spells input value × IsFormFault value fault
+IsRunAnswer input (Err (Form fault)) = BeginsAsList input × (value : Value) × Spells input value × (form0_of value ≡ Err fault)
 
 -- the answer of a command to an input
 abbrev pub IsAnswer : Command → List ℕ → Result (List ℕ) Refusal → Type 0

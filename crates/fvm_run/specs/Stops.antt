@@ -3,7 +3,7 @@ use Rattle.std.specs.Prelude.{ℕ, List, Option, Err}
 use Rattle.fil_base.specs.declared.failure.Failure.{Failure}
 use Rattle.fil_base.specs.declared.failure.Failure.TheVariants as failure
 use Rattle.dag_cbor.specs.declared.fault.CborFault.{CborFault}
-use Rattle.tipset_exec.specs.declared.reading.FormFault.{FormFault}
+use Rattle.fil_message.specs.declared.form_fault.FormFault.{FormFault}
 use Rattle.std.specs.Io.KnownBytes.{IsAtEnd}
 use Rattle.outside_io.specs.Causes.{Rose}
 use Rattle.fvm_run.specs.declared.command.Command.{Command}

@@ -2,15 +2,16 @@ ghost use Rattle.std.specs.Prelude.{◌≡◌, length};
 ghost use Rattle.std.specs.List.{flat_map};
 ghost use Rattle.fvm_run.specs.Writing.{Wrote};
 ghost use Rattle.fvm_run.specs.Headline.{Says};
-ghost use Rattle.fvm_run.specs.Lines.{line, refusal_line, cbor_kind, form_kind};
+ghost use Rattle.fvm_run.specs.Lines.{cbor_kind, field_kind, form_line, line, refusal_line};
 
 use crate::output::write_whole;
 use crate::refusal::Refusal;
 use crate::status::Status;
+use cbor_fields::{FieldFault, FieldKind};
 use dag_cbor::{CborFault, CborKind};
+use fil_message::FormFault;
 use itoa::Buffer;
 use outside_io::{Failed, Sink};
-use tipset_exec::FormFault;
 
 const USAGE: &[u8] =
     b"usage: run [--workers W] [--engines E] | schedule [--engines E] [--seed S] | check | pack | generate S N | load S N\n";
@@ -87,17 +88,50 @@ fn cbor_kind_text(kind: CborKind) -> &'static [u8]
 
 fn write_form_fault<E: Sink>(sink: &mut E, fault: FormFault) -> Result<(), Failed>
     ensures { Wrote (E.taken sink.old) (E.taken sink.new)
-        (E.faults sink.old) (E.faults sink.new) (refusal_line (Refusal.Form fault)) result }
+        (E.faults sink.old) (E.faults sink.new) (form_line fault) result }
 {
-    let pieces = [b"refused form ".as_slice(), form_kind_text(fault), b"\n"];
+    match fault {
+        FormFault::Field(fault) => write_field_fault(sink, fault),
+        FormFault::Order(at) => write_order_fault(sink, at),
+        FormFault::Total => write_whole(sink, b"refused form Total\n"),
+    }
+}
+
+fn write_field_fault<E: Sink>(sink: &mut E, fault: FieldFault) -> Result<(), Failed>
+    ensures { Wrote (E.taken sink.old) (E.taken sink.new)
+        (E.faults sink.old) (E.faults sink.new) (form_line (FormFault.Field fault)) result }
+{
+    let mut index = Buffer::new();
+    let pieces = [
+        b"refused form ".as_slice(),
+        field_kind_text(fault.kind),
+        b" ",
+        index.format(fault.index).as_bytes(),
+        b"\n",
+    ];
     write_pieces(sink, &pieces)
 }
 
-fn form_kind_text(fault: FormFault) -> &'static [u8]
-    ensures { result.now ≡ form_kind fault }
+fn write_order_fault<E: Sink>(sink: &mut E, at: u32) -> Result<(), Failed>
+    ensures { Wrote (E.taken sink.old) (E.taken sink.new)
+        (E.faults sink.old) (E.faults sink.new) (form_line (FormFault.Order at)) result }
 {
-    match fault {
-        FormFault::Shape => b"Shape",
+    let mut place = Buffer::new();
+    let pieces = [
+        b"refused form Order ".as_slice(),
+        place.format(at).as_bytes(),
+        b"\n",
+    ];
+    write_pieces(sink, &pieces)
+}
+
+fn field_kind_text(kind: FieldKind) -> &'static [u8]
+    ensures { result.now ≡ field_kind kind }
+{
+    match kind {
+        FieldKind::WrongKind => b"WrongKind",
+        FieldKind::WrongLength => b"WrongLength",
+        FieldKind::OutOfRange => b"OutOfRange",
     }
 }
 

@@ -1,5 +1,5 @@
 use dag_cbor::CborFault;
-use tipset_exec::FormFault;
+use fil_message::FormFault;
 
 /// Why an input is refused, in the order in which it is judged.
 #[derive(Clone, Copy, Debug, PartialEq, Eq)]

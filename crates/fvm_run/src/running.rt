@@ -3,17 +3,19 @@ ghost use Rattle.std.specs.Io.KnownBytes.{IsAtEnd};
 ghost use Rattle.fvm_run.specs.declared.command.Command.TheVariants.{Run};
 ghost use Rattle.fvm_run.specs.Answers.{Answers, IsRunAnswer, BeginsAsList, Spells};
 ghost use Rattle.fvm_run.specs.Stops.{HasCauseOfStop, IfRefused};
-ghost use Rattle.tipset_exec.specs.Layout.{form_value};
-ghost use Rattle.tipset_exec.specs.Sound.{IsForm0};
+ghost use Rattle.fil_message.specs.Form0Layout.{form_value};
+ghost use Rattle.fil_message.specs.Form0Sound.{IsForm0};
 
 use crate::input::read_to_end;
 use crate::refusal::Refusal;
 use crate::stop::Stop;
 use dag_cbor::decode;
 use fil_base::Bytes;
+use fil_message::{Form0, read_form0};
 use outside_io::Source;
+use report_text::form0_text;
 use std::alloc::Global;
-use tipset_exec::{Form0, form0_text, read_form0, run_form0};
+use tipset_exec::run_form0;
 
 /// The text that `run` gives for what the source has left.
 pub fn run_text<S: Source>(alloc: Global, source: &mut S) -> Result<Bytes, Stop>

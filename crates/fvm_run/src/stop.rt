@@ -5,9 +5,9 @@ ghost use Rattle.fvm_run.specs.Stops.{cbor_stop, form_stop};
 use crate::refusal::Refusal;
 use dag_cbor::CborFault;
 use fil_base::{Failure, NoMemory};
+use fil_message::FormFault;
 use outside_io::Failed;
 use std::alloc::AllocError;
-use tipset_exec::FormFault;
 
 /// Why a command has no text.
 #[derive(Clone, Copy, Debug, PartialEq, Eq)]

@@ -86,11 +86,11 @@ fn refusals_have_a_line_each(rt: HostRuntime) -> Result<(), Fail> {
         (b"\x84\x00\x00\x80", b"refused cbor Cut 4\n"),
         (b"\x84\x00\x00\x80\x80\x00", b"refused cbor Trailing 5\n"),
         (b"\x84\x00\x18\x17\x80\x80", b"refused cbor LongHead 2\n"),
-        (b"\x84\x00\x60\x80\x80", b"refused form Shape\n"),
-        (b"\x84\x00\x20\x80\x80", b"refused form Shape\n"),
+        (b"\x84\x00\x60\x80\x80", b"refused form WrongKind 1\n"),
+        (b"\x84\x00\x20\x80\x80", b"refused form OutOfRange 1\n"),
         (
             b"\x84\x00\x00\x81\x83\x00\x00\x42\x01\x05\x80",
-            b"refused form Shape\n",
+            b"refused form OutOfRange 2\n",
         ),
     ];
     for (input, line) in table {

@@ -10,7 +10,7 @@ use Rattle.dag_cbor.specs.declared.value.Value.{Value}
 use Rattle.hamt_map.specs.Pairs.{Pairs, at_place, place_on}
 use Rattle.hamt_map.specs.Groups.{bits_from, by_place, is_group}
 
-group_at : (level k : ℕ) (pairs : Pairs) (d : Pairs) → k < 32 → get_or (by_place level pairs) k d ≡ at_place level k pairs
+pub group_at : (level k : ℕ) (pairs : Pairs) (d : Pairs) → k < 32 → get_or (by_place level pairs) k d ≡ at_place level k pairs
 group_at level k pairs d within = get_or-map-range_with_len (λ place. at_place level place pairs) 0 32 k k d within (omega arith)
 
 -- one more pair, put behind those at its place

@@ -15,6 +15,7 @@ use Rattle.hamt_map.specs.Pairs.{Pairs, at_place}
 use Rattle.hamt_map.specs.Node.{bitfield, bucket, groups, is_small, node, node_block, node_with, nodes, places}
 use Rattle.hamt_map.specs.Groups.{bits_from, by_place, is_group, nodes_of, nodes_under, pointer_to, pointers_of}
 use Rattle.hamt_map.specs.Holds.{FitNodes}
+use Rattle.hamt_map.specs.Canonical.{node_of}
 
 -- ---- one group
 
@@ -29,7 +30,7 @@ no_nodes zero group none = refl
 no_nodes (suc below) [] none = refl
 no_nodes (suc below) (p ∷ group) none = absurd (omega arith)
 
-some_test : (n : ℕ) → 0 < n → nat_lt 0 n ≡ true
+pub some_test : (n : ℕ) → 0 < n → nat_lt 0 n ≡ true
 some_test n some = search rules
 
 pub one_pointer : (below : ℕ) (group : Pairs) → 0 < length group → pointers_of below group ≡ pointer_to below group ∷ []
@@ -117,10 +118,6 @@ pointers_are pointer below level pairs same =
 node_is_with : (pointer : Pairs → Value) (below level : ℕ) (pairs : Pairs) → ((group : Pairs) → pointer_to below group ≡ pointer group)
     → node_with pointer level pairs ≡ v.List (v.Blob (digits_of 256 (bits_from 0 (by_place level pairs))) ∷ (v.List (flat_map (pointers_of below) (by_place level pairs)) ∷ []))
 node_is_with pointer below level pairs same = λ i. v.List (v.Blob (bits_are level pairs i) ∷ (v.List (pointers_are pointer below level pairs same i) ∷ []))
-
--- a node of these bits and pointers
-abbrev pub node_of : List ℕ → List Value → Value
-node_of bits pointers = v.List (v.Blob bits ∷ (v.List pointers ∷ []))
 
 pub node_is : (below : ℕ) (pairs : Pairs) → node below pairs ≡ node_of (digits_of 256 (bits_from 0 (by_place (51 - below) pairs))) (flat_map (pointers_of below) (by_place (51 - below) pairs))
 unfolding node pointer_to

@@ -6,8 +6,9 @@ use Rattle.dag_cbor.specs.Plain.{IsPlain, IsPlainLayer}
 use Rattle.dag_cbor.specs.declared.value.Value.{Value, Value-F, out-Value}
 use Rattle.dag_cbor.specs.declared.value.Value.TheOpen as layer
 use Rattle.dag_cbor.specs.declared.value.Value.TheVariants as v
-use Rattle.hamt_map.specs.Walk.{if_some, bytes_in, items_in, two_of, two_in, pair_in, pointer_values, behind_bits, with_bits, set_bits}
-use Rattle.hamt_map.proofs.ForEach.{if_some_gives}
+use Rattle.tree_blocks.specs.Forms.{if_some, bytes_in, items_in, set_bits}
+use Rattle.hamt_map.specs.Walk.{two_of, two_in, pair_in, pointer_values, behind_bits, with_bits}
+use Rattle.tree_blocks.proofs.ForEach.{if_some_gives}
 
 -- ---- the items of a list
 

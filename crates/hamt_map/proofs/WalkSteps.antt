@@ -1,17 +1,32 @@
 -- Steps of walking a tree.
-use Rattle.std.proofs.Common.{◌≡◌, ℕ, zero, suc, ◌-◌, List, Some, None, Ok, Err, Result, IfOk, IfErr, IsErrAnd, arith, subst, refl, sym, ap, ◌∙◌}
-use Rattle.std.specs.FinMap.{from_entries}
+use Rattle.std.proofs.Common.{◌≡◌, ℕ, zero, suc, ◌-◌, true, false, cond, List, [], ◌∷◌, ◌++◌, length, map, take, drop, Option, Some, None, Ok, Err, Result, IfErr, IsErrAnd, OnOk, arith, subst, refl, sym, ap, ◌∙◌}
+use Rattle.std.proofs.Math.Seq.{drop-append_seam, take-append_seam}
+use Rattle.std.proofs.lemmas.Bool.Decides.{nat_tests}
+use Rattle.std.proofs.lemmas.Result.{on_ok_weaker}
+use Rattle.std.specs.Prelude.{IfSome, nat_eq}
+use Rattle.std.specs.Cmp.Lexicographic.{same_text}
+use Rattle.std.specs.FinMap.{entries, from_entries}
+use Rattle.fil_base.specs.CidEquality.{same_parts}
 use Rattle.fil_base.specs.CidParts.{CidParts}
 use Rattle.fil_base.specs.Failure.{IfFault}
 use Rattle.fil_base.specs.declared.failure.Failure.{Failure}
 use Rattle.fil_base.specs.declared.failure.Failure.TheVariants as failures
 use Rattle.cid_core.specs.BlockParts.{BlockParts, found}
+use Rattle.dag_cbor.specs.Spelling.{spelled}
+use Rattle.dag_cbor.specs.declared.value.Value.TheVariants as v
 use Rattle.hamt_map.specs.Pairs.{Map, Pairs}
+use Rattle.hamt_map.specs.Canonical.{ArePointersPut, ArePut, IsPointerPut, IsRead, PointsTo, child_place, map_of, node_of, pointer_value}
 use Rattle.hamt_map.specs.Loading.{AreFound, IsFaultOf, gathered_map, walk_child}
-use Rattle.hamt_map.specs.Holds.{Holds}
-use Rattle.hamt_map.specs.Walk.{Pointer, gathered, if_ok, judged, node_in, walk, walked}
-use Rattle.hamt_map.specs.declared.fault.HamtFault.{HamtFault}
-use Rattle.hamt_map.specs.declared.fault.HamtFault.TheVariants.{Missing, Form}
+use Rattle.hamt_map.specs.Holds.{FitNodes, Holds, spellings}
+use Rattle.hamt_map.specs.Node.{node_block}
+use Rattle.hamt_map.specs.ReadPointers.{IsNodeIn}
+use Rattle.tree_blocks.specs.Judging.{if_ok, same_block}
+use Rattle.hamt_map.specs.Walk.{Pointer, Child, gathered, judged, node_in, walk, walked}
+use Rattle.hamt_map.specs.declared.node_form.ReadNode.{ReadNode}
+use Rattle.tree_blocks.specs.declared.fault.TreeFault.{TreeFault}
+use Rattle.tree_blocks.specs.declared.fault.TreeFault.TheVariants.{Missing, Form, NotCanonical}
+use Rattle.hamt_map.proofs.LeafLists.{first_true, second_true}
+use Rattle.hamt_map.proofs.Putting.{child_points}
 
 -- ---- what a walk is
 
@@ -31,12 +46,12 @@ pub record IsNodeAt (blocks : List BlockParts) (below : ℕ) (cid : CidParts) (b
   pub block : Some b ≡ found blocks cid
   pub pointers : node_in below b.bytes ≡ Some those
 
-judged_map : (below : ℕ) (b : BlockParts) (all : Result Pairs HamtFault)
+judged_map : (below : ℕ) (b : BlockParts) (all : Result Pairs TreeFault)
     → if_ok all (λ pairs. judged below b (from_entries pairs)) ≡ if_ok (if_ok all (λ pairs. Ok (from_entries pairs))) (judged below b)
 judged_map below b (Ok pairs) = refl
 judged_map below b (Err fault) = refl
 
-is_judged : (blocks : List BlockParts) (below : ℕ) (cid : CidParts) (b : BlockParts) (those : List Pointer) → IsNodeAt blocks below cid b those
+pub is_judged : (blocks : List BlockParts) (below : ℕ) (cid : CidParts) (b : BlockParts) (those : List Pointer) → IsNodeAt blocks below cid b those
     → walk blocks below cid ≡ if_ok (gathered_map (walk_child blocks below) those) (judged below b)
 is_judged blocks below cid b those node = rw (walk_steps, ← node.block, node.pointers) (judged_map below b (gathered (walk_child blocks below) those))
 
@@ -46,38 +61,118 @@ child_is_walked blocks (suc below) cid some = let same : below ≡ suc below - 1
 
 -- ---- what a call answers
 
-pub fault_as : (failure : Failure HamtFault) (fault : HamtFault) (walked : Result Map HamtFault) → walked ≡ Err fault → IfFault failure (λ f. f ≡ fault) → IsFaultOf walked failure
+pub fault_as : (failure : Failure TreeFault) (fault : TreeFault) (walked : Result Map TreeFault) → walked ≡ Err fault → IfFault failure (λ f. f ≡ fault) → IsFaultOf walked failure
 fault_as failures.NoMemory fault walked is same = tt
 fault_as (failures.Fault f) fault walked is same = is ∙ ap Err (sym same)
 
--- what is said of one walk is said of an equal one
-pub found_as : {E : Type 0} (r : Result (List (List ℕ × List ℕ)) E) (a b : Result Map HamtFault) → b ≡ a → IfOk r (AreFound a) → IfOk r (AreFound b)
-found_as (Ok pairs) a b same h = (h.0, same ∙ h.1, h.2)
-found_as (Err e) a b same h = tt
-
 -- a fault below a node
-pub fault_below : {X : Type 0} (blocks : List BlockParts) (below : ℕ) (cid : CidParts) (b : BlockParts) (those : List Pointer) (part : Failure HamtFault) (r : Result X (Failure HamtFault))
+pub fault_below : {X : Type 0} (blocks : List BlockParts) (below : ℕ) (cid : CidParts) (b : BlockParts) (those : List Pointer) (part : Failure TreeFault) (r : Result X (Failure TreeFault))
     → IsNodeAt blocks below cid b those → IsErrAnd r (λ failure. failure ≡ part) → IsFaultOf (gathered_map (walk_child blocks below) those) part → IfErr r (IsFaultOf (walk blocks below cid))
 fault_below blocks below cid b those part (Ok x) node same h = tt
 fault_below blocks below cid b those failures.NoMemory (Err failure) node same h = subst (IsFaultOf (walk blocks below cid)) (sym same) tt
 fault_below blocks below cid b those (failures.Fault f) (Err failure) node same h =
-    subst (IsFaultOf (walk blocks below cid)) (sym same) (is_judged blocks below cid b those node ∙ ap (λ (r : Result Map HamtFault). if_ok r (judged below b)) h)
+    subst (IsFaultOf (walk blocks below cid)) (sym same) (is_judged blocks below cid b those node ∙ ap (λ (r : Result Map TreeFault). if_ok r (judged below b)) h)
 
 -- the map under a node is judged
 judged_below : (blocks : List BlockParts) (below : ℕ) (cid : CidParts) (b : BlockParts) (those : List Pointer) (m : Map) → IsNodeAt blocks below cid b those
     → gathered_map (walk_child blocks below) those ≡ Ok m → walk blocks below cid ≡ judged below b m
-judged_below blocks below cid b those m node gather = is_judged blocks below cid b those node ∙ ap (λ (r : Result Map HamtFault). if_ok r (judged below b)) gather
+judged_below blocks below cid b those m node gather = is_judged blocks below cid b those node ∙ ap (λ (r : Result Map TreeFault). if_ok r (judged below b)) gather
 
-pub judged_found : {E : Type 0} (blocks : List BlockParts) (below : ℕ) (cid : CidParts) (b : BlockParts) (those : List Pointer) (pairs : List (List ℕ × List ℕ)) (r : Result (List (List ℕ × List ℕ)) E)
-    → IsNodeAt blocks below cid b those → AreFound (gathered_map (walk_child blocks below) those) pairs
-    → ((m : Map) → Holds pairs m → IfOk r (λ same. (judged below b m ≡ Ok m) × Holds same m)) → IfOk r (AreFound (walk blocks below cid))
-judged_found blocks below cid b those pairs (Ok same) node gather judges =
-    let good = judges gather.0 gather.2 in (gather.0, judged_below blocks below cid b those gather.0 node gather.1 ∙ good.0, good.1)
-judged_found blocks below cid b those pairs (Err e) node gather judges = tt
+-- what was put under a node was read under it
+was_read : (below : ℕ) (child : CidParts → Result Map TreeFault) (b : BlockParts) (node : ReadNode) (those : List Pointer) (old new : List (List ℕ × List ℕ)) (start : ℕ) (places : Option ℕ)
+    → b.bytes ≡ spelled (node_of node.bits (map pointer_value those)) → (put : ArePointersPut child below those old new places) → start ≡ length old → IsRead below b node.bits places (drop start new) (map_of put.pairs)
+was_read below child b node those old new start places spells put at = record {
+  pairs = put.pairs;
+  pointers = map pointer_value those;
+  same = (λ i. drop (at i) (put.put i)) ∙ drop-append_seam old (spellings put.pairs);
+  fit = put.fit;
+  map = refl;
+  bytes = spells;
+  canonical = put.canonical;
+}
 
-pub judged_fault : {X : Type 0} (blocks : List BlockParts) (below : ℕ) (cid : CidParts) (b : BlockParts) (those : List Pointer) (pairs : List (List ℕ × List ℕ)) (r : Result X (Failure HamtFault))
-    → IsNodeAt blocks below cid b those → AreFound (gathered_map (walk_child blocks below) those) pairs
-    → ((m : Map) → Holds pairs m → IfErr r (IsFaultOf (judged below b m))) → IfErr r (IsFaultOf (walk blocks below cid))
-judged_fault blocks below cid b those pairs (Ok x) node gather judges = tt
-judged_fault blocks below cid b those pairs (Err failures.NoMemory) node gather judges = tt
-judged_fault blocks below cid b those pairs (Err (failures.Fault f)) node gather judges = judged_below blocks below cid b those gather.0 node gather.1 ∙ judges gather.0 gather.2
+front_kept : (old new more : List (List ℕ × List ℕ)) (start : ℕ) → new ≡ old ++ more → start ≡ length old → take start new ≡ old
+front_kept old new more start put at = (λ i. take (at i) (put i)) ∙ take-append_seam old more
+
+pub judged_found : {X E : Type 0} (blocks : List BlockParts) (below : ℕ) (cid : CidParts) (b : BlockParts) (node : ReadNode) (those : List Pointer) (old new after : List (List ℕ × List ℕ)) (start : ℕ) (places : Option ℕ) (r : Result X E)
+    → Some b ≡ found blocks cid → node_in below b.bytes ≡ Some those → IsNodeIn b.bytes node those → ArePointersPut (walk_child blocks below) below those old new places → start ≡ length old
+    → ((m : Map) → IsRead below b node.bits places (drop start new) m → OnOk r (ArePut (judged below b m) (take start new) after)) → OnOk r (ArePut (walk blocks below cid) old after)
+judged_found blocks below cid b node those old new after start places r block reads is put at judges =
+    on_ok_weaker r (λ good. subst (λ (w : Result Map TreeFault). ArePut w old after) (sym (judged_below blocks below cid b those (map_of put.pairs) (record { block = block; pointers = reads }) put.walk))
+    (subst (λ (front : List (List ℕ × List ℕ)). ArePut (judged below b (map_of put.pairs)) front after) (front_kept old new (spellings put.pairs) start put.put at) good))
+    (judges (map_of put.pairs) (was_read below (walk_child blocks below) b node those old new start places is.whole put at))
+
+pub judged_fault : {X : Type 0} (blocks : List BlockParts) (below : ℕ) (cid : CidParts) (b : BlockParts) (node : ReadNode) (those : List Pointer) (old new : List (List ℕ × List ℕ)) (start : ℕ) (places : Option ℕ) (r : Result X (Failure TreeFault))
+    → Some b ≡ found blocks cid → node_in below b.bytes ≡ Some those → IsNodeIn b.bytes node those → ArePointersPut (walk_child blocks below) below those old new places → start ≡ length old
+    → ((m : Map) → IsRead below b node.bits places (drop start new) m → IfErr r (IsFaultOf (judged below b m))) → IfErr r (IsFaultOf (walk blocks below cid))
+judged_fault blocks below cid b node those old new start places (Ok x) block reads is put at judges = tt
+judged_fault blocks below cid b node those old new start places (Err failures.NoMemory) block reads is put at judges = tt
+judged_fault blocks below cid b node those old new start places (Err (failures.Fault f)) block reads is put at judges =
+    judged_below blocks below cid b those (map_of put.pairs) (record { block = block; pointers = reads }) put.walk
+    ∙ judges (map_of put.pairs) (was_read below (walk_child blocks below) b node those old new start places is.whole put at)
+
+-- ---- the CID of a node that was walked
+
+same_number : (x y : ℕ) → nat_eq x y ≡ true → x ≡ y
+same_number x y same = grind (arith, nat_tests)
+
+same_cid : (a b : CidParts) → same_parts a b ≡ true → a ≡ b
+same_cid a b same =
+    let codecs = second_true (nat_eq a.version b.version) _ same in
+    let hashes = second_true (nat_eq a.codec b.codec) _ codecs in
+    let version = same_number a.version b.version (first_true (nat_eq a.version b.version) _ same) in
+    let codec = same_number a.codec b.codec (first_true (nat_eq a.codec b.codec) _ codecs) in
+    let hash = same_number a.hash b.hash (first_true (nat_eq a.hash b.hash) _ hashes) in
+    let digest = same_text a.digest b.digest (sym (second_true (nat_eq a.hash b.hash) _ hashes)) in
+    λ i. record { version = version i; codec = codec i; hash = hash i; digest = digest i }
+
+found_named : (blocks : List BlockParts) (cid : CidParts) (b : BlockParts) → found blocks cid ≡ Some b → b.cid ≡ cid
+found_named [] cid b e = absurd (cc e)
+found_named (x ∷ blocks) cid b e =
+    elim (same_parts x.cid cid) as (λ t. same_parts x.cid cid ≡ t → cond t (Some x) (found blocks cid) ≡ Some b → b.cid ≡ cid) [
+      | true ↦ λ same e. let here : x ≡ b = cc e in ap (λ (c : BlockParts). c.cid) (sym here) ∙ same_cid x.cid cid same
+      | false ↦ λ other e. found_named blocks cid b e
+    ] refl e
+
+-- the CID of a walk that gives a map is that of the map's node
+pub walk_named : (blocks : List BlockParts) (below : ℕ) (cid : CidParts) (m : Map) → walk blocks below cid ≡ Ok m → (node_block below (entries m)).cid ≡ cid
+walk_named blocks below cid m e = by_block (found blocks cid) refl where
+  by_judged : (b : BlockParts) (n : Map) → found blocks cid ≡ Some b → judged below b n ≡ Ok m → (node_block below (entries m)).cid ≡ cid
+  by_judged b n block good =
+      elim (same_block (node_block below (entries n)) b) as (λ t. same_block (node_block below (entries n)) b ≡ t → cond t (Ok n) (Err (NotCanonical b.cid (node_block below (entries n)).cid)) ≡ Ok m → (node_block below (entries m)).cid ≡ cid) [
+        | true ↦ λ same good.
+            let maps : n ≡ m = cc good in
+            ap (λ (k : Map). (node_block below (entries k)).cid) (sym maps)
+            ∙ same_cid (node_block below (entries n)).cid b.cid (first_true (same_parts (node_block below (entries n)).cid b.cid) _ same) ∙ found_named blocks cid b block
+        | false ↦ λ other good. absurd (cc good)
+      ] refl good
+
+  by_gathered : (b : BlockParts) (all : Result Map TreeFault) → found blocks cid ≡ Some b → if_ok all (judged below b) ≡ Ok m → (node_block below (entries m)).cid ≡ cid
+  by_gathered b (Ok n) block good = by_judged b n block good
+  by_gathered b (Err fault) block good = absurd (cc good)
+
+  by_pointers : (b : BlockParts) (read : Option (List Pointer)) → found blocks cid ≡ Some b → node_in below b.bytes ≡ read → (node_block below (entries m)).cid ≡ cid
+  by_pointers b None block read = let bad : Err (Form cid) ≡ Ok m = sym (no_form blocks below cid b (sym block) read) ∙ e in absurd (cc bad)
+  by_pointers b (Some those) block read = by_gathered b (gathered_map (walk_child blocks below) those) block (sym (is_judged blocks below cid b those (record { block = sym block; pointers = read })) ∙ e)
+
+  by_block : (o : Option BlockParts) → found blocks cid ≡ o → (node_block below (entries m)).cid ≡ cid
+  by_block None none = let bad : Err (Missing cid) ≡ Ok m = sym (no_block blocks below cid (sym none)) ∙ e in absurd (cc bad)
+  by_block (Some b) block = by_pointers b (node_in below b.bytes) block refl
+
+-- what a child gives is put, with its place
+pub child_put : (blocks : List BlockParts) (below : ℕ) (cid : CidParts) (old new : List (List ℕ × List ℕ)) (start : ℕ) (place : Option ℕ) → (below ≡ 0 → ⊥) → ArePut (walk blocks (below - 1) cid) old new → start ≡ length old
+    → place ≡ child_place below (drop start new) → IsPointerPut (walk_child blocks below) below (Child cid) old new place
+child_put blocks below cid old new start place some put at is = record {
+  pairs = put.pairs;
+  walk = child_is_walked blocks below cid some ∙ put.walk;
+  put = put.put;
+  fit = put.fit;
+  canonical = subst (λ (o : Option ℕ). IfSome o (PointsTo below put.pairs (v.Link cid))) (sym (is ∙ ap (child_place below) ((λ i. drop (at i) (put.put i)) ∙ drop-append_seam old (spellings put.pairs))))
+      (child_points below cid put.pairs (omega (arith, some)) (walk_named blocks (below - 1) cid (map_of put.pairs) put.walk) put.once);
+}
+
+-- ---- the whole tree
+
+-- the pairs that were put behind nothing are those of a walk
+pub put_found : (walked : Result Map TreeFault) (old new pairs : List (List ℕ × List ℕ)) → old ≡ [] → ArePut walked old new → ((all : Pairs) → new ≡ spellings all → FitNodes all → Holds pairs (from_entries all)) → AreFound walked pairs
+put_found walked old new pairs none put made = (map_of put.pairs, put.walk, made put.pairs (put.put ∙ ap (λ xs. xs ++ spellings put.pairs) none) put.fit)

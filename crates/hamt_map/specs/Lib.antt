@@ -3,7 +3,8 @@ pub mod Node
 pub mod Groups
 pub mod Walk
 pub mod Holds
-pub mod Flushing
 pub mod Stands
-pub mod ReadPointers
 pub mod Loading
+pub mod StateFaults
+pub mod Canonical
+pub mod ReadPointers

@@ -1,60 +1,27 @@
 -- The map of a tree whose blocks are in a list, or its first fault: a node is judged when all its pointers were walked
 -- in their order. How many levels are below a node is 50 for the root, and 0 for one on the last level.
-use Rattle.std.specs.Prelude.{ℕ, zero, suc, ◌&&◌, ◌==◌, Bool, nat_eq, List, [], ◌∷◌, ◌++◌, length, nat_le, sum, map, if◌then◌else◌}
+use Rattle.std.specs.Prelude.{ℕ, zero, suc, ◌&&◌, ◌==◌, List, [], ◌∷◌, ◌++◌, length, nat_le, if◌then◌else◌}
 use Rattle.std.specs.FinMap.{entries, from_entries}
-use Rattle.std.specs.Int.Digits.{digits_of}
-use Rattle.std.specs.Cmp.Lexicographic.{pointwise}
 use Rattle.std.specs.declared.option.Option.{Option}
 use Rattle.std.specs.declared.option.Option.TheVariants.{None, Some}
 use Rattle.std.specs.declared.result.Result.{Result}
 use Rattle.std.specs.declared.result.Result.TheVariants.{Ok, Err}
-use Rattle.fil_base.specs.CidEquality.{same_parts}
 use Rattle.fil_base.specs.CidParts.{CidParts}
 use Rattle.cid_core.specs.BlockParts.{BlockParts, found}
 use Rattle.dag_cbor.specs.Reading.{whole_at}
 use Rattle.dag_cbor.specs.declared.value.Value.{Value, Value-F, out-Value}
 use Rattle.dag_cbor.specs.declared.value.Value.TheOpen as layer
+use Rattle.tree_blocks.specs.Forms.{bytes_in, for_each, if_some, items_in, set_bits}
+use Rattle.tree_blocks.specs.Judging.{if_ok, same_block}
 use Rattle.hamt_map.specs.Node.{node_block}
 use Rattle.hamt_map.specs.Pairs.{Map, Pairs}
-use Rattle.hamt_map.specs.declared.fault.HamtFault.{HamtFault}
-use Rattle.hamt_map.specs.declared.fault.HamtFault.TheVariants.{Missing, Form, NotCanonical}
+use Rattle.tree_blocks.specs.declared.fault.TreeFault.{TreeFault}
+use Rattle.tree_blocks.specs.declared.fault.TreeFault.TheVariants.{Missing, Form, NotCanonical}
 
 -- what a pointer of a node points to: pairs that stand in it, or a node below
 pub data Pointer : Type 0 where
   Bucket : Pairs → Pointer
   Child : CidParts → Pointer
-
--- the answer of f for what there is
-abbrev pub if_some : {A B : Type 0} → Option A → (A → Option B) → Option B
-if_some None f = None
-if_some (Some x) f = f x
-
--- what f gives for each, where it gives something for all
-abbrev pub for_each : {A B : Type 0} → (A → Option B) → List A → Option (List B)
-for_each f [] = Some []
-for_each f (x ∷ xs) = if_some (f x) (λ y. if_some (for_each f xs) (λ ys. Some (y ∷ ys)))
-
--- the bytes of a byte string
-abbrev pub bytes_in : Value-F Value → Option (List ℕ)
-bytes_in layer.Null = None
-bytes_in (layer.Bool b) = None
-bytes_in (layer.Int n) = None
-bytes_in (layer.Blob bytes) = Some bytes
-bytes_in (layer.Text bytes) = None
-bytes_in (layer.List items) = None
-bytes_in (layer.Map pairs) = None
-bytes_in (layer.Link cid) = None
-
--- the items of a list
-abbrev pub items_in : Value-F Value → Option (List Value)
-items_in layer.Null = None
-items_in (layer.Bool b) = None
-items_in (layer.Int n) = None
-items_in (layer.Blob bytes) = None
-items_in (layer.Text bytes) = None
-items_in (layer.List items) = Some items
-items_in (layer.Map pairs) = None
-items_in (layer.Link cid) = None
 
 -- two items, and no more
 abbrev pub two_of : List Value → Option (Value × Value)
@@ -82,10 +49,6 @@ pointer_of below (layer.List items) = if_some (for_each pair_in items) (λ pairs
 pointer_of below (layer.Map pairs) = None
 pointer_of below (layer.Link cid) = if below == 0 then None else Some (Child cid)
 
--- how many bits are set
-abbrev pub set_bits : List ℕ → ℕ
-set_bits bytes = sum (map (λ byte. sum (digits_of 2 byte)) bytes)
-
 -- a bit field has at most 4 bytes, and as many set bits as there are pointers
 abbrev pub with_bits : List ℕ → List Value → Option (List Value)
 with_bits bits pointers = if nat_le (length bits) 4 && (length pointers == set_bits bits) then Some pointers else None
@@ -109,42 +72,33 @@ node_in below bytes = spelled_by (whole_at bytes) where
   spelled_by (Ok value) = pointers_in below value
   spelled_by (Err fault) = None
 
--- the answer of f, or the fault
-abbrev pub if_ok : {A B : Type 0} → Result A HamtFault → (A → Result B HamtFault) → Result B HamtFault
-if_ok (Ok x) f = f x
-if_ok (Err fault) f = Err fault
-
 -- the pairs under pointers, in their order, where a child gives a map
-abbrev pub gathered : (CidParts → Result Map HamtFault) → List Pointer → Result Pairs HamtFault
+abbrev pub gathered : (CidParts → Result Map TreeFault) → List Pointer → Result Pairs TreeFault
 gathered child [] = Ok []
 gathered child (Bucket pairs ∷ pointers) = if_ok (gathered child pointers) (λ rest. Ok (pairs ++ rest))
 gathered child (Child cid ∷ pointers) = if_ok (child cid) (λ m. if_ok (gathered child pointers) (λ rest. Ok (entries m ++ rest)))
 
--- the same CID, and the same bytes
-abbrev pub same_block : BlockParts → BlockParts → Bool
-same_block a b = same_parts a.cid b.cid && pointwise nat_eq a.bytes b.bytes
-
 -- a node is the one that the pairs under it define
-abbrev pub judged : ℕ → BlockParts → Map → Result Map HamtFault
+abbrev pub judged : ℕ → BlockParts → Map → Result Map TreeFault
 judged below b m =
     if same_block (node_block below (entries m)) b then Ok m else Err (NotCanonical b.cid (node_block below (entries m)).cid)
 
 -- a node and what is under it; of a key that is met twice the first value counts
-abbrev pub walked : List BlockParts → ℕ → (CidParts → Result Map HamtFault) → CidParts → Result Map HamtFault
+abbrev pub walked : List BlockParts → ℕ → (CidParts → Result Map TreeFault) → CidParts → Result Map TreeFault
 walked blocks below child cid = with_block (found blocks cid) where
-  with_node : BlockParts → Option (List Pointer) → Result Map HamtFault
+  with_node : BlockParts → Option (List Pointer) → Result Map TreeFault
   with_node b None = Err (Form cid)
   with_node b (Some pointers) = if_ok (gathered child pointers) (λ pairs. judged below b (from_entries pairs))
 
-  with_block : Option BlockParts → Result Map HamtFault
+  with_block : Option BlockParts → Result Map TreeFault
   with_block None = Err (Missing cid)
   with_block (Some b) = with_node b (node_in below b.bytes)
 
 -- the map of the tree under a node
-unfoldable pub walk : List BlockParts → ℕ → CidParts → Result Map HamtFault
+unfoldable pub walk : List BlockParts → ℕ → CidParts → Result Map TreeFault
 walk blocks zero cid = walked blocks zero (λ child. Err (Form child)) cid
 walk blocks (suc below) cid = walked blocks (suc below) (walk blocks below) cid
 
 -- the map of the tree under a root
-abbrev pub hamt_at : List BlockParts → CidParts → Result Map HamtFault
+abbrev pub hamt_at : List BlockParts → CidParts → Result Map TreeFault
 hamt_at blocks root = walk blocks 50 root

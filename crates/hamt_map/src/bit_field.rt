@@ -1,4 +1,5 @@
-ghost use Rattle.std.specs.Prelude.{◌≡◌, ◌≤◌, ◌<◌, ◌^◌, ◌++◌, IfOk, OnOk, if◌then◌else◌, length, map};
+ghost use Rattle.std.specs.Prelude.{◌≡◌, ◌≤◌, ◌<◌, ◌^◌, ◌++◌, IfOk, OnOk, if◌then◌else◌, length, map, nat_eq};
+ghost use Rattle.std.specs.Cmp.Lexicographic.{pointwise};
 ghost use Rattle.std.specs.Int.Digits.{digits_of};
 ghost use Rattle.hamt_map.specs.Groups.{bits_from, is_group};
 
@@ -15,6 +16,15 @@ pub(crate) fn bit_field(alloc: Global, groups: &[Vec<Hashed>]) -> Mem<Bytes>
     let mut bits = Vec::new(alloc);
     put_number(&mut bits, bits_of(groups))?;
     Ok(Bytes::of(bits))
+}
+
+/// Whether bytes are those of a number, big-endian and without leading zeros.
+pub(crate) fn is_bit_field(alloc: Global, number: u64, bytes: &[u8]) -> Mem<bool>
+    ensures { IfOk result (λ same. same ≡ pointwise nat_eq (digits_of 256 number) bytes.now) }
+{
+    let mut digits = Vec::new(alloc);
+    put_number(&mut digits, number)?;
+    Ok(digits.as_slice() == bytes)
 }
 
 /// The bit of each place that has a group.

@@ -5,11 +5,10 @@ ghost use Rattle.dag_cbor.specs.Plain.{IsPlain};
 ghost use Rattle.fil_base.specs.Failure.{IfFault};
 ghost use Rattle.hamt_map.specs.Node.{hamt_nodes, hamt_root};
 ghost use Rattle.hamt_map.specs.Pairs.{Map};
-ghost use Rattle.hamt_map.specs.Stands.{Stands, new_blocks};
+ghost use Rattle.hamt_map.specs.Stands.{Stands};
+ghost use Rattle.tree_blocks.specs.NewBlocks.{new_blocks};
 ghost use Rattle.hamt_map.specs.Walk.{hamt_at};
 
-use crate::fault::HamtFault;
-use crate::flushing::new_of;
 use crate::loading::{BELOW_ROOT, walk};
 use crate::nodes::all_nodes;
 use crate::pairs::Spelled;
@@ -17,6 +16,7 @@ use cid_core::{Block, BlockSource};
 use dag_cbor::Value;
 use fil_base::{Bytes, Cid, Failure, Mem, NoMemory, Row};
 use std::alloc::Global;
+use tree_blocks::{TreeFault as HamtFault, new_of};
 
 /// A finite map from bytes to values of DAG-CBOR, as a tree with a canonical root.
 ///

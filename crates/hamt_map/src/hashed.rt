@@ -66,7 +66,7 @@ impl Hashed {
 }
 
 /// Five bits of a hash, from the most significant on. They stand in two bytes next to each other.
-fn place_in(hash: &[u8; 32], level: u64) -> usize
+pub(crate) fn place_in(hash: &[u8; 32], level: u64) -> usize
     requires first { 1 ≤ level }
     requires last { level ≤ 51 }
     ensures { result ≡ number_from_digits 256 hash.now / 2 ^ (256 - 5 * level) % 32 }

@@ -9,20 +9,25 @@
 #![tactic(auto)]
 
 mod bit_field;
-mod fault;
-mod flushing;
 mod groups;
 mod hamt;
 mod hashed;
 mod laws;
+mod leaf;
 mod loading;
+mod loading_law;
 mod node_form;
 mod nodes;
 mod pairs;
+mod state_fault;
+mod state_value;
 
-pub use fault::HamtFault;
 pub use hamt::Hamt;
 pub use laws::{one_map, one_order};
+pub use loading_law::loaded_again;
+pub use state_fault::StateFault;
+pub use state_value::value_under;
+pub use tree_blocks::TreeFault as HamtFault;
 
 #[cfg(test)]
 mod load_tests;

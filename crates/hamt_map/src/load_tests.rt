@@ -1,9 +1,9 @@
-use crate::fault::HamtFault;
 use crate::hamt::Hamt;
 use cid_core::{Block, BlockSource};
 use dag_cbor::Value;
 use fil_base::{Bytes, Cid, Failure};
 use std::test::Fail;
+use tree_blocks::TreeFault;
 
 // The nodes and the digests below are by a Python program with `hashlib`. The SHA2-256 of `s`, `bf`, `ff` and `fw`
 // begin with the bits 00000, followed by 10000, 10011, 10110 and 11111; that of `u` begins with 00001.
@@ -72,7 +72,7 @@ fn block(rt: HostRuntime, bytes: &[u8]) -> Result<Block, Fail> {
 }
 
 // The fault of the tree whose root is the first of two blocks.
-fn load(rt: HostRuntime, first: &[u8], second: &[u8]) -> Result<Option<HamtFault>, Fail> {
+fn load(rt: HostRuntime, first: &[u8], second: &[u8]) -> Result<Option<TreeFault>, Fail> {
     let base = TwoBlocks {
         first: block(rt, first)?,
         second: block(rt, second)?,
@@ -80,30 +80,30 @@ fn load(rt: HostRuntime, first: &[u8], second: &[u8]) -> Result<Option<HamtFault
     Ok(fault_of(Hamt::load(rt.alloc(), &base, base.first.cid())))
 }
 
-fn fault_of(answer: Result<Hamt, Failure<HamtFault>>) -> Option<HamtFault> {
+fn fault_of(answer: Result<Hamt, Failure<TreeFault>>) -> Option<TreeFault> {
     match answer {
         Err(Failure::Fault(fault)) => Some(fault),
         _ => None,
     }
 }
 
-fn is_missing(fault: &Option<HamtFault>, root: &Cid) -> bool {
+fn is_missing(fault: &Option<TreeFault>, root: &Cid) -> bool {
     match fault {
-        Some(HamtFault::Missing(cid)) => cid == root,
+        Some(TreeFault::Missing(cid)) => cid == root,
         _ => false,
     }
 }
 
-fn is_form(fault: &Option<HamtFault>, root: &Cid) -> bool {
+fn is_form(fault: &Option<TreeFault>, root: &Cid) -> bool {
     match fault {
-        Some(HamtFault::Form(cid)) => cid == root,
+        Some(TreeFault::Form(cid)) => cid == root,
         _ => false,
     }
 }
 
-fn is_not_canonical(fault: &Option<HamtFault>, root: &Cid, canonical: &Cid) -> bool {
+fn is_not_canonical(fault: &Option<TreeFault>, root: &Cid, canonical: &Cid) -> bool {
     match fault {
-        Some(HamtFault::NotCanonical(cid, other)) => cid == root && other == canonical,
+        Some(TreeFault::NotCanonical(cid, other)) => cid == root && other == canonical,
         _ => false,
     }
 }
@@ -204,6 +204,35 @@ fn nodes_that_are_not_canonical_are_refused(rt: HostRuntime) -> Result<(), Fail>
         let root_block = block(rt, root)?;
         let canonical = block(rt, canonical)?;
         let fault = load(rt, root, under)?;
+        assert!(rt; is_not_canonical(&fault, root_block.cid(), canonical.cid()));
+    }
+    Ok(())
+}
+
+// As above; the canonical roots are those of the pairs in Python.
+#[test]
+fn bit_fields_and_orders_are_judged(rt: HostRuntime) -> Result<(), Fail> {
+    let cases: [(&[u8], &[u8]); 3] = [
+        // a leading zero in the bit field
+        (
+            b"\x82\x42\x00\x01\x81\x81\x82\x41s\x02",
+            b"\x82\x41\x01\x81\x81\x82\x41s\x02",
+        ),
+        // a key twice in a bucket
+        (
+            b"\x82\x41\x01\x81\x82\x82\x41s\x02\x82\x41s\x03",
+            b"\x82\x41\x01\x81\x81\x82\x41s\x02",
+        ),
+        // places that fall
+        (
+            b"\x82\x41\x03\x82\x81\x82\x41u\x01\x81\x82\x41s\x02",
+            b"\x82\x41\x03\x82\x81\x82\x41s\x02\x81\x82\x41u\x01",
+        ),
+    ];
+    for (root, canonical) in cases {
+        let root_block = block(rt, root)?;
+        let canonical = block(rt, canonical)?;
+        let fault = load(rt, root, EMPTY)?;
         assert!(rt; is_not_canonical(&fault, root_block.cid(), canonical.cid()));
     }
     Ok(())

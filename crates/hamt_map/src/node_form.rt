@@ -1,58 +1,82 @@
-ghost use Rattle.std.specs.Prelude.{◌≡◌, ◌≤◌, All, IfOk, length};
+ghost use Rattle.std.specs.Prelude.{◌≡◌, ◌≤◌, All, IfOk, IfSome, length};
 ghost use Rattle.std.specs.List.{AllZip};
 ghost use Rattle.std.specs.Option.{option_map};
 ghost use Rattle.dag_cbor.specs.Plain.{IsPlain};
 ghost use Rattle.dag_cbor.specs.declared.value.Value.{out-Value};
 ghost use Rattle.dag_cbor.specs.declared.value.Value.TheOpen as layer;
-ghost use Rattle.hamt_map.specs.ReadPointers.{IsFound, IsPointer};
-ghost use Rattle.hamt_map.specs.Walk.{Bucket, bytes_in as blob_in, for_each, items_in as list_in, node_in as pointers_at, pair_in as pair_at, pointer_of as pointer_at, pointer_values as values_in, pointers_in as node_at, set_bits as ones_in, two_in as both_in};
+ghost use Rattle.hamt_map.specs.Canonical.{node_of as value_of};
+ghost use Rattle.hamt_map.specs.ReadPointers.{IsFound, IsNode, IsNodeIn, IsPointer};
+ghost use Rattle.tree_blocks.specs.Forms.{bytes_in as blob_in, for_each, items_in as list_in, set_bits as ones_in};
+ghost use Rattle.hamt_map.specs.Walk.{Bucket, node_in as pointers_at, pair_in as pair_at, pointer_of as pointer_at, pointer_values as values_in, pointers_in as node_at, two_in as both_in};
 
-use crate::pairs::Spelled;
+use crate::leaf::Leaf;
 use dag_cbor::{Value, decode};
-use fil_base::{Cid, Failure, Mem, NoMemory, Row};
+use fil_base::{Bytes, Cid, Failure, Mem, NoMemory, Row};
 use std::alloc::Global;
+use tree_blocks::{bytes_in, items_in, set_bits};
 
 /// What a pointer of a node points to.
 #[derive(Drop)]
 pub(crate) enum ReadPointer {
-    /// The pairs of a bucket. Of a key that is met twice the first value counts.
-    Bucket(Spelled),
+    /// The pairs of a bucket, in their order.
+    Bucket(Row<Leaf>),
 
     /// A node below.
     Child(Cid),
 }
 
-/// The pointers of the node that the bytes spell, if they spell one with so many levels below.
-pub(crate) fn node_in(alloc: Global, below: u64, bytes: &[u8]) -> Mem<Option<Row<ReadPointer>>>
-    ensures { IfOk result (λ found. IsFound (AllZip IsPointer) found (pointers_at below bytes.now)) }
+/// A node that was read: its bit field, and its pointers in their order.
+#[derive(Drop)]
+pub(crate) struct ReadNode {
+    pub(crate) bits: Bytes,
+    pub(crate) pointers: Row<ReadPointer>,
+}
+
+/// The node that the bytes spell, if they spell one with so many levels below.
+pub(crate) fn node_in(alloc: Global, below: u64, bytes: &[u8]) -> Mem<Option<ReadNode>>
+    ensures { IfOk result (λ found. IsFound (IsNodeIn bytes.now) found (pointers_at below bytes.now)) }
 {
     match decode(alloc, bytes) {
-        Ok(value) => pointers_in(alloc, below, &value),
+        Ok(value) => node_of(alloc, below, &value),
         Err(Failure::NoMemory) => Err(NoMemory),
         Err(Failure::Fault(_)) => Ok(None),
     }
 }
 
-/// The pointers of the node that the value is, if it is one.
-fn pointers_in(alloc: Global, below: u64, value: &Value) -> Mem<Option<Row<ReadPointer>>>
+/// The node that the value is, if it is one.
+fn node_of(alloc: Global, below: u64, value: &Value) -> Mem<Option<ReadNode>>
     requires { IsPlain 128 value.now }
-    ensures { IfOk result (λ found. IsFound (AllZip IsPointer) found (node_at below value.now)) }
+    ensures { IfOk result (λ found. IsFound (IsNode value.now) found (node_at below value.now)) }
 {
-    match pointer_values(value) {
-        Some(values) => pointers_of(alloc, below, values),
+    match node_parts(value) {
+        Some((bits, values)) => node_of_parts(alloc, below, bits, values),
         None => Ok(None),
     }
 }
 
-/// The values where a node has its pointers: as many as it has set bits.
-fn pointer_values(value: &Value) -> Option<&[Value]>
-    ensures { option_map (λ values. values.now) result ≡ values_in value.now }
+/// The node of a bit field and of the pointers that the values are, if each is one.
+fn node_of_parts(alloc: Global, below: u64, bits: &[u8], values: &[Value]) -> Mem<Option<ReadNode>>
+    requires { All (IsPlain 126) values.now }
+    ensures { IfOk result (λ found. IsFound (IsNode (value_of bits.now values.now)) found
+        (for_each (λ value. pointer_at below (out-Value value)) values.now)) }
+{
+    let Some(pointers) = pointers_of(alloc, below, values)? else {
+        return Ok(None);
+    };
+    let bits = Bytes::copy_of(alloc, bits)?;
+    Ok(Some(ReadNode { bits, pointers }))
+}
+
+/// The bit field of a node, and the values where it has its pointers: as many as it has set bits.
+fn node_parts(value: &Value) -> Option<(&[u8], &[Value])>
+    ensures values { option_map (λ parts. parts.1.now) result ≡ values_in value.now }
+    ensures whole { IfSome result (λ parts. value.now ≡ value_of parts.0.now parts.1.now) }
 {
     let (bits, values) = two_in(value)?;
     let bits = bytes_in(bits)?;
     let values = items_in(values)?;
     if bits.len() <= 4 && values.len() == set_bits(bits) {
-        Some(values)
+        Some((bits, values))
     } else {
         None
     }
@@ -92,14 +116,15 @@ fn bucket_of(alloc: Global, values: &[Value]) -> Mem<Option<ReadPointer>>
     ensures { IfOk result (λ found. IsFound (λ pointer pairs. IsPointer pointer (Bucket pairs)) found
         (for_each pair_at values.now)) }
 {
-    let mut pairs = Spelled::empty(alloc);
+    let mut leaves = Vec::with_capacity(alloc, values.len())?;
     for value in values {
         let Some((key, value)) = pair_in(value) else {
             return Ok(None);
         };
-        pairs.insert_if_absent(alloc, key, value)?;
+        let leaf = Leaf::of(alloc, key, value)?;
+        leaves.push(leaf)?;
     }
-    Ok(Some(ReadPointer::Bucket(pairs)))
+    Ok(Some(ReadPointer::Bucket(Row::of(leaves))))
 }
 
 /// A node below, if there is a level below.
@@ -132,36 +157,4 @@ fn two_in(value: &Value) -> Option<(&Value, &Value)>
     } else {
         None
     }
-}
-
-/// The bytes of a byte string.
-fn bytes_in(value: &Value) -> Option<&[u8]>
-    ensures { option_map (λ bytes. bytes.now) result ≡ blob_in (out-Value value.now) }
-{
-    match value {
-        Value::Blob(bytes) => Some(bytes.as_slice()),
-        _ => None,
-    }
-}
-
-/// The items of a list.
-fn items_in(value: &Value) -> Option<&[Value]>
-    ensures { option_map (λ items. items.now) result ≡ list_in (out-Value value.now) }
-{
-    match value {
-        Value::List(items) => Some(items.as_slice()),
-        _ => None,
-    }
-}
-
-/// How many bits of a bit field are set.
-fn set_bits(bytes: &[u8]) -> usize
-    requires { length bytes.now ≤ 4 }
-    ensures { result ≡ ones_in bytes.now }
-{
-    let mut count = 0;
-    for byte in bytes {
-        count += byte.count_ones() as usize;
-    }
-    count
 }

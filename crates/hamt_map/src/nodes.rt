@@ -5,7 +5,7 @@ ghost use Rattle.cid_core.specs.BlockParts.{block_of};
 ghost use Rattle.dag_cbor.specs.declared.value.Value.TheVariants as v;
 ghost use Rattle.dag_cbor.specs.Plain.{IsPlain};
 ghost use Rattle.dag_cbor.specs.Spelling.{spelled};
-ghost use Rattle.hamt_map.specs.Flushing.{IsNodeBlock};
+ghost use Rattle.tree_blocks.specs.NewBlocks.{IsNodeBlock};
 ghost use Rattle.hamt_map.specs.Groups.{nodes_of, nodes_under, pointer_to, pointers_of};
 ghost use Rattle.hamt_map.specs.Node.{bucket, hamt_nodes, hamt_root, node_block as block_at};
 ghost use Rattle.hamt_map.specs.Pairs.{Map};
@@ -22,13 +22,13 @@ use sqlite_items::Items;
 use std::alloc::Global;
 
 /// The codec of DAG-CBOR (multicodec).
-const DAG_CBOR: u64 = 0x71;
+pub(crate) const DAG_CBOR: u64 = 0x71;
 
 /// How many levels are below the root.
 const MAX_BELOW: u64 = 50;
 
 /// The greatest number of pairs that stand in a bucket on a level that is not the last.
-const BUCKET_SIZE: usize = 3;
+pub(crate) const BUCKET_SIZE: usize = 3;
 
 /// The block of the node of these pairs that has so many levels below.
 pub(crate) fn node_block(alloc: Global, below: u64, pairs: &Spelled) -> Mem<Block>

@@ -1,11 +1,12 @@
-ghost use Rattle.std.specs.Prelude.{◌≡◌, ◌++◌, ◌∷◌, [], IfOk, OnErr, OnOk, if◌then◌else◌, is_some};
-ghost use Rattle.std.specs.FinMap.{contains_key, empty, entries, from_entries, get, insert, remove};
-ghost use Rattle.std.specs.FinMap.Entries.{find, put};
+ghost use Rattle.std.specs.Prelude.{◌≡◌, ◌++◌, IfOk, OnErr, OnOk};
+ghost use Rattle.std.specs.FinMap.{empty, entries, from_entries, get, insert, remove};
+ghost use Rattle.std.specs.FinMap.Entries.{put};
 ghost use Rattle.dag_cbor.specs.Plain.{IsPlain};
 ghost use Rattle.dag_cbor.specs.Spelling.{spelled};
-ghost use Rattle.hamt_map.specs.Holds.{FitNodes, Holds, IsSpelling, insert_absent};
+ghost use Rattle.hamt_map.specs.Holds.{FitNodes, Holds, IsSpelling, spellings};
 ghost use Rattle.hamt_map.specs.Pairs.{Map, Pairs, key_cmp};
 
+use crate::leaf::Leaf;
 use dag_cbor::{Value, decode, encode};
 use fil_base::{Bytes, Failure, Mem, NoMemory};
 use std::alloc::Global;
@@ -40,19 +41,37 @@ impl Spelled {
         }
     }
 
+    /// The pairs of leaves. Of a key that is met twice the first value counts.
+    pub(crate) fn of_leaves(alloc: Global, leaves: Vec<Leaf>) -> Mem<Spelled>
+        ensures { (pairs : Pairs) → leaves.items ≡ spellings pairs → FitNodes pairs
+            → IfOk result (λ made. Holds made (from_entries pairs)) }
+    {
+        let mut pairs = Spelled::empty(alloc);
+        let mut left = leaves;
+        while let Some(leaf) = left.pop() {
+            let (key, spelling) = leaf.into_parts();
+            pairs.put(key, spelling)?;
+        }
+        Ok(pairs)
+    }
+
+    /// Puts the pairs behind leaves that are there.
+    pub(crate) fn put_leaves(self, leaves: &mut Vec<Leaf>) -> Mem<()>
+        ensures { OnOk result (leaves.new.items ≡ leaves.old.items ++ self) }
+    {
+        let Spelled { inner } = self;
+        for (key, spelling) in inner {
+            leaves.push(Leaf::of_spelling(key, spelling))?;
+        }
+        Ok(())
+    }
+
     /// The same pairs.
     pub(crate) fn copy(&self) -> Mem<Spelled>
         ensures { IfOk result (λ copy. copy ≡ self.now) }
     {
         let inner = self.inner.clone()?;
         Ok(Spelled { inner })
-    }
-
-    pub(crate) fn contains(&self, key: &[u8]) -> bool
-        ensures found { result ≡ is_some (find key_cmp key.now self.now) }
-        ensures map { (m : Map) → Holds self.now m → result ≡ contains_key m key.now }
-    {
-        self.inner.contains_key(key)
     }
 
     /// The value of a key.
@@ -79,33 +98,6 @@ impl Spelled {
         self.put(key, spelling.into_vec())
     }
 
-    /// Gives a key a value, if it has none.
-    pub(crate) fn insert_if_absent(&mut self, alloc: Global, key: &[u8], value: &Value) -> Mem<()>
-        requires plain { IsPlain 124 value.now }
-        ensures after { (m : Map) → Holds self.old m
-            → OnOk result (Holds self.new (insert_absent m key.now value.now)) }
-        // The first value of a key counts.
-        ensures first { (done : Pairs) → Holds self.old (from_entries done)
-            → OnOk result (Holds self.new (from_entries (done ++ (key.now, value.now) ∷ []))) }
-    {
-        if self.contains(key) {
-            return Ok(());
-        }
-        self.insert(alloc, key, value)
-    }
-
-    /// Gives each key of `more` that has no value the one that it has there.
-    pub(crate) fn merge(&mut self, more: Spelled) -> Mem<()>
-        ensures first { (done : Pairs) (m : Map) → Holds self.old (from_entries done) → Holds more m
-            → OnOk result (Holds self.new (from_entries (done ++ entries m))) }
-    {
-        let Spelled { inner } = more;
-        for (key, spelling) in inner {
-            self.put_if_absent(key, spelling)?;
-        }
-        Ok(())
-    }
-
     /// Takes a key away.
     pub(crate) fn remove(&mut self, key: &[u8])
         ensures { (m : Map) → Holds self.old m → Holds self.new (remove m key.now) }
@@ -125,18 +117,6 @@ impl Spelled {
             pairs.push((key, value))?;
         }
         Ok(pairs)
-    }
-
-    /// Gives a key a spelling, if it has none.
-    fn put_if_absent(&mut self, key: Vec<u8>, spelling: Vec<u8>) -> Mem<()>
-        requires { IsSpelling spelling.items }
-        ensures { OnOk result (self.new ≡ (if is_some (find key_cmp key.items self.old) then self.old
-            else put key_cmp key.items spelling.items self.old)) }
-    {
-        if self.contains(key.as_slice()) {
-            return Ok(());
-        }
-        self.put(key, spelling)
     }
 
     /// Gives a key a spelling.

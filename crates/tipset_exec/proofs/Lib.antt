@@ -1,10 +1,6 @@
-pub mod LayoutLaws
-pub mod ReadingSteps
-pub mod ReadingWhole
 pub mod Lookup
 pub mod Search
 pub mod Inserts
 pub mod Writes
 pub mod Runs
 pub mod Outcome
-pub mod Lines

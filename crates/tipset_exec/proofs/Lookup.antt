@@ -7,7 +7,7 @@ use Rattle.std.specs.List.Sorted.{IsStrictlyIncreasing}
 use Rattle.std.proofs.lemmas.Bool.Decides.{nat_tests}
 use Rattle.std.proofs.lemmas.List.{get_or-map, length-map}
 use Rattle.std.proofs.lemmas.List.Kept.{AllPairs-from_increasing}
-use Rattle.tipset_exec.specs.declared.form0.Form0Actor.{Form0Actor}
+use Rattle.fil_message.specs.declared.form0.Form0Actor.{Form0Actor}
 use Rattle.tipset_exec.specs.Accounts.{Account, accounts_of}
 use Rattle.tipset_exec.specs.Ledger.{ids, id_at, account_at, IsLedger}
 

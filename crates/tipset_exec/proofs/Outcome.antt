@@ -1,9 +1,9 @@
 -- The actors that a run leaves are those of the report.
 use Rattle.std.proofs.Common.{◌≡◌, ℕ, ◌<◌, List, [], ◌∷◌, length, map, get_or, refl, sym, ap, ◌∙◌, arith}
 use Rattle.std.proofs.lemmas.List.{get_or-map, length-map, same_lists}
-use Rattle.tipset_exec.specs.declared.form0.Form0.{Form0}
-use Rattle.tipset_exec.specs.declared.form0.Form0Actor.{Form0Actor}
-use Rattle.tipset_exec.specs.declared.form0.Form0Message.{Form0Message}
+use Rattle.fil_message.specs.declared.form0.Form0.{Form0}
+use Rattle.fil_message.specs.declared.form0.Form0Actor.{Form0Actor}
+use Rattle.fil_message.specs.declared.form0.Form0Message.{Form0Message}
 use Rattle.tipset_exec.specs.Accounts.{Accounts, accounts_of}
 use Rattle.tipset_exec.specs.Report.{actor_with, exits, final, report_of}
 use Rattle.tipset_exec.specs.Ledger.{ids, id_at, IsLedger}

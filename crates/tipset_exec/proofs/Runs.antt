@@ -2,7 +2,7 @@
 use Rattle.std.proofs.Common.{◌≡◌, ℕ, ◌+◌, ◌<◌, List, [], ◌∷◌, ◌++◌, length, get_or, take, refl, ap, ◌∙◌}
 use Rattle.std.proofs.lemmas.List.{take_more}
 use Rattle.std.proofs.lemmas.List.Sums.{fold_more}
-use Rattle.tipset_exec.specs.declared.form0.Form0Message.{Form0Message}
+use Rattle.fil_message.specs.declared.form0.Form0Message.{Form0Message}
 use Rattle.tipset_exec.specs.Accounts.{Accounts, exit_of, after}
 use Rattle.tipset_exec.specs.Report.{exits, final}
 

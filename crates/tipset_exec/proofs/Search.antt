@@ -7,7 +7,7 @@ use Rattle.std.specs.FinMap.{get}
 use Rattle.std.proofs.lemmas.Cmp.{ranked}
 use Rattle.std.proofs.lemmas.Bool.Decides.{nat_tests}
 use Rattle.std.proofs.lemmas.List.Sorted.{IsNonDecreasingBy-from_default}
-use Rattle.tipset_exec.specs.declared.form0.Form0Actor.{Form0Actor}
+use Rattle.fil_message.specs.declared.form0.Form0Actor.{Form0Actor}
 use Rattle.tipset_exec.specs.Accounts.{accounts_of}
 use Rattle.tipset_exec.specs.Ledger.{id_at, IsLedger, IsPlaceOf}
 use Rattle.tipset_exec.proofs.Lookup.{Rises, rises_from, get_at, get_none, id_there}

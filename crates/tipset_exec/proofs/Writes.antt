@@ -6,7 +6,7 @@ use Rattle.std.specs.List.Sorted.{IsStrictlyIncreasing}
 use Rattle.std.proofs.lemmas.List.{map-set, set-get_or}
 use Rattle.std.proofs.lemmas.List.Sums.{sum-map, sum_by-set, get_or-le-sum_by}
 use Rattle.fil_base.specs.declared.token.TheConstants.{GREATEST_AMOUNT}
-use Rattle.tipset_exec.specs.declared.form0.Form0Actor.{Form0Actor}
+use Rattle.fil_message.specs.declared.form0.Form0Actor.{Form0Actor}
 use Rattle.tipset_exec.specs.Accounts.{accounts_of}
 use Rattle.tipset_exec.specs.Ledger.{ids, total, id_at, IsLedger}
 use Rattle.tipset_exec.proofs.Lookup.{account_of, rises_from, eq_by_nat_cmp, get_is, lookup-set, id_there, nonce_there, balance_there}

@@ -3,8 +3,8 @@ use Rattle.std.specs.Prelude.{ℕ, ◌+◌, ◌-◌, ◌==◌, ◌||◌, not, Li
 use Rattle.std.specs.Ordering.{nat_cmp}
 use Rattle.std.specs.FinMap.{FinMap, get, insert, from_entries}
 use Rattle.fil_base.specs.declared.exit_code.TheConstants.{EXIT_OK, SYS_SENDER_INVALID, SYS_SENDER_STATE_INVALID, SYS_INVALID_RECEIVER, SYS_INSUFFICIENT_FUNDS}
-use Rattle.tipset_exec.specs.declared.form0.Form0Actor.{Form0Actor}
-use Rattle.tipset_exec.specs.declared.form0.Form0Message.{Form0Message}
+use Rattle.fil_message.specs.declared.form0.Form0Actor.{Form0Actor}
+use Rattle.fil_message.specs.declared.form0.Form0Message.{Form0Message}
 
 -- the nonce of an actor's next message, and what the actor has
 pub record Account : Type 0 where

@@ -3,7 +3,7 @@ use Rattle.std.specs.Prelude.{◌≡◌, ℕ, ◌<◌, ◌≤◌, List, length, 
 use Rattle.std.specs.FinMap.{get}
 use Rattle.std.specs.List.Sorted.{IsStrictlyIncreasing}
 use Rattle.fil_base.specs.declared.token.TheConstants.{GREATEST_AMOUNT}
-use Rattle.tipset_exec.specs.declared.form0.Form0Actor.{Form0Actor}
+use Rattle.fil_message.specs.declared.form0.Form0Actor.{Form0Actor}
 use Rattle.tipset_exec.specs.Accounts.{Account, account, accounts_of}
 
 -- the IDs in their order

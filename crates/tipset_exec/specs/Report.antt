@@ -1,9 +1,9 @@
 -- What running an account list gives.
 use Rattle.std.specs.Prelude.{ℕ, List, [], ◌∷◌, map, fold}
-use Rattle.tipset_exec.specs.declared.form0.Form0.{Form0}
-use Rattle.tipset_exec.specs.declared.form0.Form0Actor.{Form0Actor}
-use Rattle.tipset_exec.specs.declared.form0.Form0Message.{Form0Message}
-use Rattle.tipset_exec.specs.declared.form0.Form0Report.{Form0Report}
+use Rattle.fil_message.specs.declared.form0.Form0.{Form0}
+use Rattle.fil_message.specs.declared.form0.Form0Actor.{Form0Actor}
+use Rattle.fil_message.specs.declared.form0.Form0Message.{Form0Message}
+use Rattle.fil_message.specs.declared.form0.Form0Report.{Form0Report}
 use Rattle.tipset_exec.specs.Accounts.{Accounts, account, accounts_of, exit_of, after}
 
 -- how each message ends, run one after another

@@ -2,16 +2,16 @@ ghost use Rattle.std.specs.Prelude.{◌≡◌, ◌+◌, ◌^◌, ◌<◌, ◌≤
 ghost use Rattle.std.specs.FinMap.{get};
 ghost use Rattle.fil_base.specs.declared.token.TheConstants.{GREATEST_AMOUNT};
 ghost use Rattle.fil_base.specs.declared.exit_code.TheConstants.{EXIT_OK, SYS_INSUFFICIENT_FUNDS};
-ghost use Rattle.tipset_exec.specs.Sound.{IsForm0, IsMessage};
+ghost use Rattle.fil_message.specs.Form0Sound.{IsForm0, IsTransfer};
 ghost use Rattle.tipset_exec.specs.Accounts.{accounts_of, exit_of, after, with_next_nonce, without, with_more};
 ghost use Rattle.tipset_exec.specs.Report.{report_of, exits, final};
 ghost use Rattle.tipset_exec.specs.Ledger.{ids, total, id_at, account_at, IsLedger, IsPlaceOf};
 
-use crate::form0::{Form0, Form0Actor, Form0Message, Form0Report};
 use fil_base::{
     ActorId, EXIT_OK, ExitCode, Mem, Row, SYS_INSUFFICIENT_FUNDS, SYS_INVALID_RECEIVER,
     SYS_SENDER_INVALID, SYS_SENDER_STATE_INVALID, Token,
 };
+use fil_message::{Form0, Form0Actor, Form0Message, Form0Report};
 use std::alloc::Global;
 
 /// Runs the messages one after another, each on the accounts that the one before it left. It takes memory for
@@ -37,7 +37,7 @@ fn run_messages(
     messages: &[Form0Message],
 ) -> Mem<Vec<ExitCode>>
     requires ledger { IsLedger actors.old }
-    requires messages { All IsMessage messages.now }
+    requires messages { All IsTransfer messages.now }
     ensures exits { IfOk result (λ done. done.items ≡ exits (accounts_of actors.old) messages.now) }
     ensures after { OnOk result (accounts_of actors.new ≡ final (accounts_of actors.old) messages.now) }
     ensures ledger { IsLedger actors.new }
@@ -54,7 +54,7 @@ fn run_messages(
 #[tactic(auto, using(crate::proofs::Inserts::inserts), unfolding(crate::specs::Accounts::exit_of, crate::specs::Accounts::after))]
 fn run_message(actors: &mut [Form0Actor], message: &Form0Message) -> ExitCode
     requires ledger { IsLedger actors.old }
-    requires message { IsMessage message.now }
+    requires message { IsTransfer message.now }
     ensures exit { result ≡ exit_of (accounts_of actors.old) message.now }
     ensures after { accounts_of actors.new ≡ after (accounts_of actors.old) message.now }
     ensures ledger { IsLedger actors.new }
@@ -149,21 +149,20 @@ fn place_of(actors: &[Form0Actor], id: ActorId) -> Option<usize>
 #[cfg(test)]
 mod tests {
     use super::*;
-    use crate::text::form0_text;
     use std::test::Fail;
 
-    fn actor(id: u32, balance: u32) -> Form0Actor
-        ensures { result ≡ record { id = id; nonce = 0; balance = balance } }
+    fn actor(id: u32, nonce: u32, balance: u32) -> Form0Actor
+        ensures { result ≡ record { id = id; nonce = nonce; balance = balance } }
     {
         Form0Actor {
             id: ActorId::new(u64::from(id)).unwrap(),
-            nonce: 0,
+            nonce: u64::from(nonce),
             balance: Token::new(u128::from(balance)).unwrap(),
         }
     }
 
     fn message(from: u32, to: u32, nonce: u32, value: u32) -> Form0Message
-        ensures { IsMessage result }
+        ensures { IsTransfer result }
     {
         Form0Message {
             from: ActorId::new(u64::from(from)).unwrap(),
@@ -175,10 +174,10 @@ mod tests {
 
     // Actor 100 with a balance of 10 and actor 101 with none, and the messages.
     fn form(alloc: Global, messages: Vec<Form0Message>) -> Mem<Form0>
-        requires { All IsMessage messages.items }
+        requires { All IsTransfer messages.items }
         ensures { IfOk result (λ form. IsForm0 form) }
     {
-        let actors = vec![in alloc; actor(100, 10), actor(101, 0)]?;
+        let actors = vec![in alloc; actor(100, 0, 10), actor(101, 0, 0)]?;
         Ok(Form0 {
             epoch: 0,
             actors: Row::of(actors),
@@ -192,14 +191,10 @@ mod tests {
         let first = message(100, 101, 0, 3);
         let messages = vec![in alloc; first, first, message(100, 101, 1, 3)]?;
         let report = run_form0(alloc, &form(alloc, messages)?)?;
-        let lines = b"epoch 0\n\
-            message 0 exit 0\n\
-            message 1 exit 2\n\
-            message 2 exit 0\n\
-            actor 100 nonce 2 balance 4\n\
-            actor 101 nonce 0 balance 6\n\
-            end\n";
-        assert_eq!(rt; form0_text(alloc, &report)?.as_slice(), lines.as_slice());
+        let exits = [EXIT_OK, SYS_SENDER_STATE_INVALID, EXIT_OK].map(ExitCode::new);
+        assert_eq!(rt; report.exits.as_slice(), exits.as_slice());
+        let actors = [actor(100, 2, 4), actor(101, 0, 6)];
+        assert_eq!(rt; report.actors.as_slice(), actors.as_slice());
         Ok(())
     }
 
@@ -213,15 +208,16 @@ mod tests {
         let to_oneself = message(100, 100, 2, 10);
         let messages = vec![in alloc; no_sender, no_receiver, too_great, to_oneself]?;
         let report = run_form0(alloc, &form(alloc, messages)?)?;
-        let lines = b"epoch 0\n\
-            message 0 exit 1\n\
-            message 1 exit 5\n\
-            message 2 exit 6\n\
-            message 3 exit 0\n\
-            actor 100 nonce 3 balance 10\n\
-            actor 101 nonce 0 balance 0\n\
-            end\n";
-        assert_eq!(rt; form0_text(alloc, &report)?.as_slice(), lines.as_slice());
+        let exits = [
+            SYS_SENDER_INVALID,
+            SYS_INVALID_RECEIVER,
+            SYS_INSUFFICIENT_FUNDS,
+            EXIT_OK,
+        ]
+        .map(ExitCode::new);
+        assert_eq!(rt; report.exits.as_slice(), exits.as_slice());
+        let actors = [actor(100, 3, 10), actor(101, 0, 0)];
+        assert_eq!(rt; report.actors.as_slice(), actors.as_slice());
         Ok(())
     }
 }

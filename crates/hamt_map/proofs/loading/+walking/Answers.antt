@@ -1,59 +1,69 @@
-use Rattle.std.proofs.Common.{sym, ◌∙◌}
+use Rattle.std.proofs.Common.{◌≡◌, List, ℕ, Option, length, sym, subst, ap, ◌∙◌, arith}
 use Rattle.std.proofs.lemmas.List.{nil_from_length}
-use Rattle.hamt_map.proofs.Gathering.{bucket_under, child_under, gather_begin, gather_more, gather_end}
-use Rattle.hamt_map.proofs.WalkSteps.{no_block, no_form, fault_below, judged_found, judged_fault, child_is_walked, fault_as, found_as}
+use Rattle.std.specs.Vec.Iter.{into_iter_items}
+use Rattle.hamt_map.specs.Canonical.{IsRead, child_place}
+use Rattle.hamt_map.specs.Loading.{walk_child}
+use Rattle.hamt_map.proofs.Putting.{PutSoFar, bucket_is_put, child_is_put, child_under, put_begin, put_end, put_more}
+use Rattle.hamt_map.proofs.WalkSteps.{no_block, no_form, fault_below, judged_found, judged_fault, child_is_walked, child_put, fault_as}
+use Rattle.std.specs.Prelude.{drop}
 use Rattle.hamt_map.proofs.loading.+walking.Goals as goal
 
--- ---- walk
+-- ---- put_tree
 
-pub walk-returns-in_default-clause-fault : goal.walk-returns-in_default-clause-fault
-walk-returns-in_default-clause-fault g t c = fault_as _ _ _ (no_block _ c.args.below c.args.cid.now c.in_default.ensures) c.missing.ensures
+pub put_tree-returns-in_default-clause-fault : goal.put_tree-returns-in_default-clause-fault
+put_tree-returns-in_default-clause-fault g t c = fault_as _ _ _ (no_block _ c.args.below c.args.cid.now c.in_default.ensures) c.missing.ensures
 
-pub walk-returns-in_default-2-clause-fault : goal.walk-returns-in_default-2-clause-fault
-walk-returns-in_default-2-clause-fault g t c =
-    fault_as _ _ _ (no_form _ c.args.below c.args.cid.now c.in-Some.block.now c.in-Some.ensures (rw (c.in_default-2.is, c.bytes.ensures.value) at c.in_ok-pointers.ensures)) c.no_node.ensures
+pub put_tree-returns-in_default-2-clause-fault : goal.put_tree-returns-in_default-2-clause-fault
+put_tree-returns-in_default-2-clause-fault g t c =
+    fault_as _ _ _ (no_form _ c.args.below c.args.cid.now c.in-Some.block.now c.in-Some.ensures (rw (c.in_default-2.is, c.bytes.ensures.value) at c.in_ok-node.ensures)) c.no_node.ensures
 
-pub walk-returns-in_err-pairs-clause-fault : goal.walk-returns-in_err-pairs-clause-fault
-walk-returns-in_err-pairs-clause-fault g t c =
-    let node = rw (c.in-Some-2.is, c.bytes.ensures.value) at c.in_ok-pointers.ensures in
-    fault_below _ c.args.below c.args.cid.now c.in-Some.block.now node.0 c.in_err-pairs.field-0.0 c.from_residual-in_err-pairs.result (record { block = c.in-Some.ensures; pointers = node.1 })
-    c.from_residual-in_err-pairs.ensures.1 (c.in_err-pairs.ensures.fault node.0 node.2)
+pub put_tree-returns-in_err-places-clause-fault : goal.put_tree-returns-in_err-places-clause-fault
+put_tree-returns-in_err-places-clause-fault g t c =
+    let node = rw (c.in-Some-2.is, c.bytes.ensures.value) at c.in_ok-node.ensures in
+    fault_below _ c.args.below c.args.cid.now c.in-Some.block.now node.0 c.in_err-places.field-0.0 c.from_residual-in_err-places.result (record { block = c.in-Some.ensures; pointers = node.1 })
+    c.from_residual-in_err-places.ensures.1 (c.in_err-places.ensures.fault node.0 node.2.zip)
 
-pub walk-returns-clause-found : goal.walk-returns-clause-found
-walk-returns-clause-found g t c =
-    let node = rw (c.in-Some-2.is, c.bytes.ensures.value) at c.in_ok-pointers.ensures in
-    judged_found _ c.args.below c.args.cid.now c.in-Some.block.now node.0 c.in_ok-pairs.pairs c.judge.result (record { block = c.in-Some.ensures; pointers = node.1 })
-    (c.in_ok-pairs.ensures.found node.0 node.2) c.judge.ensures.found
+pub put_tree-returns-clause-found : goal.put_tree-returns-clause-found
+put_tree-returns-clause-found g t c =
+    let node = rw (c.in-Some-2.is, c.bytes.ensures.value) at c.in_ok-node.ensures in
+    let start : c.len-start.result ≡ length c.args.leaves.now.items = c.len-start.ensures ∙ c.args.leaves.now.ok.0 in
+    judged_found _ c.args.below c.args.cid.now c.in-Some.block.now c.in-Some-2.node node.0 c.args.leaves.now.items c.put_pointers.new.leaves.items c.judge.new.leaves.items c.len-start.result c.in_ok-places.places c.judge.result
+    c.in-Some.ensures node.1 node.2 (c.in_ok-places.ensures.found node.0 node.2.zip) start
+    (λ m read. c.judge.ensures.found m (subst (λ (bits : List ℕ). IsRead c.args.below c.in-Some.block.now bits c.in_ok-places.places (drop c.len-start.result c.put_pointers.new.leaves.items) m) (sym c.as_slice.ensures) read))
 
-pub walk-returns-clause-fault : goal.walk-returns-clause-fault
-walk-returns-clause-fault g t c =
-    let node = rw (c.in-Some-2.is, c.bytes.ensures.value) at c.in_ok-pointers.ensures in
-    judged_fault _ c.args.below c.args.cid.now c.in-Some.block.now node.0 c.in_ok-pairs.pairs c.judge.result (record { block = c.in-Some.ensures; pointers = node.1 })
-    (c.in_ok-pairs.ensures.found node.0 node.2) c.judge.ensures.fault
+pub put_tree-returns-clause-fault : goal.put_tree-returns-clause-fault
+put_tree-returns-clause-fault g t c =
+    let node = rw (c.in-Some-2.is, c.bytes.ensures.value) at c.in_ok-node.ensures in
+    let start : c.len-start.result ≡ length c.args.leaves.now.items = c.len-start.ensures ∙ c.args.leaves.now.ok.0 in
+    judged_fault _ c.args.below c.args.cid.now c.in-Some.block.now c.in-Some-2.node node.0 c.args.leaves.now.items c.put_pointers.new.leaves.items c.len-start.result c.in_ok-places.places c.judge.result
+    c.in-Some.ensures node.1 node.2 (c.in_ok-places.ensures.found node.0 node.2.zip) start
+    (λ m read. c.judge.ensures.fault m (subst (λ (bits : List ℕ). IsRead c.args.below c.in-Some.block.now bits c.in_ok-places.places (drop c.len-start.result c.put_pointers.new.leaves.items) m) (sym c.as_slice.ensures) read))
 
--- ---- gather
+-- ---- put_pointers
 
-pub gather-loop-pointer-init : goal.gather-loop-pointer-init
-gather-loop-pointer-init g t c = λ those stand.
-    gather_begin _ those _ c.args.pointers c.empty-pairs.result (c.into_iter-pointer-iterator.ensures.into_iter_gives.0 ∙ c.into_vec-pointer-items.ensures) stand c.empty-pairs.ensures
+pub put_pointers-loop-pointer-init : goal.put_pointers-loop-pointer-init
+put_pointers-loop-pointer-init g t c = λ those stand.
+    put_begin _ c.args.below those _ c.args.pointers c.args.leaves.now.items (c.into_iter-pointer-iterator.ensures.into_iter_gives.0 ∙ c.into_vec-pointer-items.ensures) stand
 
-pub gather-loop-pointer-preserved : goal.gather-loop-pointer-preserved
-gather-loop-pointer-preserved g t c = λ those stand.
-    gather_more _ those _ c.in-Some.pointer _ c.loop-pointer.pairs c.in_ok-more.more c.merge.new.self c.in-Some.ensures.steps.0 (c.loop-pointer.invariant those stand) c.in_ok-more.ensures.found
-    c.in_ok-merge.ensures.first
+pub put_pointers-loop-pointer-preserved : goal.put_pointers-loop-pointer-preserved
+put_pointers-loop-pointer-preserved g t c = λ those stand.
+    subst (PutSoFar (walk_child (g.B.BlockSource.blocks c.args.base.now) c.args.below) c.args.below those (into_iter_items c.next.new.self) c.args.leaves.now.items c.put_pointer.new.leaves.items) (sym c.with_place-places.ensures)
+    (put_more _ c.args.below those _ c.in-Some.pointer _ c.args.leaves.now.items c.loop-pointer.leaves.items c.put_pointer.new.leaves.items c.loop-pointer.places c.in_ok-place.place c.in-Some.ensures.steps.0
+    (c.loop-pointer.invariant those stand) c.in_ok-place.ensures.found)
 
-pub gather-returns-clause-found : goal.gather-returns-clause-found
-gather-returns-clause-found g t c = λ those stand.
-    gather_end _ those _ c.loop-pointer.pairs (nil_from_length _ (sym c.loop-pointer.pointer-iterator.rest.ok.0 ∙ c.in-None.ensures.steps.0)) (c.loop-pointer.invariant those stand)
+pub put_pointers-returns-clause-found : goal.put_pointers-returns-clause-found
+put_pointers-returns-clause-found g t c = λ those stand.
+    put_end _ c.args.below those _ c.args.leaves.now.items c.loop-pointer.leaves.items c.loop-pointer.places (nil_from_length _ (sym c.loop-pointer.pointer-iterator.rest.ok.0 ∙ c.in-None.ensures.steps.0)) (c.loop-pointer.invariant those stand)
 
--- ---- pairs_under and walk_child
+-- ---- put_pointer and put_child
 
-pub pairs_under-returns-in-Bucket-clause-found : goal.pairs_under-returns-in-Bucket-clause-found
-pairs_under-returns-in-Bucket-clause-found g t c = λ that stand. bucket_under _ c.args.pointer c.in-Bucket.pairs that c.in-Bucket.is stand
+pub put_pointer-returns-in_ok-put_bucket-in-Bucket-clause-found : goal.put_pointer-returns-in_ok-put_bucket-in-Bucket-clause-found
+put_pointer-returns-in_ok-put_bucket-in-Bucket-clause-found g t c = λ that stand.
+    bucket_is_put _ c.args.below c.args.pointer c.in-Bucket.bucket that c.args.leaves.now.items c.put_bucket.new.leaves.items c.in_ok-put_bucket-in-Bucket.field-0 c.in-Bucket.is stand c.in_ok-put_bucket-in-Bucket.ensures.put
+    c.in_ok-put_bucket-in-Bucket.ensures.place
 
-pub pairs_under-returns-in-Child-clause-found : goal.pairs_under-returns-in-Child-clause-found
-pairs_under-returns-in-Child-clause-found g t c = λ that stand.
-    found_as c.walk_child.result _ _ (child_under _ c.args.pointer c.in-Child.cid that c.in-Child.is stand) c.walk_child.ensures.found
-
-pub walk_child-returns-clause-found : goal.walk_child-returns-clause-found
-walk_child-returns-clause-found g t c = found_as c.walk.result _ _ (child_is_walked _ c.args.below c.args.cid.now c.if-below-eq0.false) c.walk.ensures.found
+pub put_child-returns-clause-found : goal.put_child-returns-clause-found
+put_child-returns-clause-found g t c =
+    let start : c.len-start.result ≡ length c.args.leaves.now.items = c.len-start.ensures ∙ c.args.leaves.now.ok.0 in
+    child_put _ c.args.below c.args.cid.now c.args.leaves.now.items c.put_tree.new.leaves.items c.len-start.result c.child_place.result c.if-below-eq0.false c.in_ok-put_tree.ensures.found start
+    (c.child_place.ensures ∙ ap (λ xs. child_place c.args.below (drop c.len-start.result xs)) c.deref.ensures.value)

@@ -1,7 +1,7 @@
 use Rattle.dag_cbor.specs.declared.value.Value.{out-Value}
 use Rattle.hamt_map.specs.ReadPointers.{IsPointer}
 use Rattle.hamt_map.specs.Walk.{pointer_of}
-use Rattle.hamt_map.proofs.ForEach.{for_each_none, for_each_more}
+use Rattle.tree_blocks.proofs.ForEach.{for_each_none, for_each_more}
 use Rattle.hamt_map.proofs.NodeForm.{zip_push}
 use Rattle.hamt_map.proofs.node_form.pointers_of.Goals as goal
 

@@ -12,7 +12,8 @@ use Rattle.dag_cbor.specs.Spelling.{spelled}
 use Rattle.hamt_map.specs.Groups.{bits_from, nodes_of, nodes_under, pointer_to, pointers_of}
 use Rattle.hamt_map.specs.Node.{bucket, node_block}
 use Rattle.hamt_map.proofs.PlainNodes.{plain_link}
-use Rattle.hamt_map.proofs.NodeParts.{no_pointer, no_nodes, pushed_pointer, small_pointer, small_nodes, great_pointer, great_nodes_are, put_below, node_is, node_of, groups_fit}
+use Rattle.hamt_map.proofs.NodeParts.{no_pointer, no_nodes, pushed_pointer, small_pointer, small_nodes, great_pointer, great_nodes_are, put_below, node_is, groups_fit}
+use Rattle.hamt_map.specs.Canonical.{node_of}
 use Rattle.hamt_map.proofs.nodes.+building.Goals as goal
 use Rattle.hamt_map.proofs.nodes.+building.Goals.{put_pointer-then-below-eq0-via-then-below-eq0, put_pointer-then-below-eq0-via-else-below-eq0+then-len-le-BUCKET_SIZE}
 

@@ -1,10 +1,10 @@
 use Rattle.std.proofs.Common.{◌≡◌, ◌∷◌, [], ◌++◌, ap, subst, sym, ◌∙◌}
 use Rattle.std.specs.Prelude.{All}
 use Rattle.cid_core.specs.BlockParts.{BlockParts}
-use Rattle.hamt_map.specs.Flushing.{IsNodeBlock}
+use Rattle.tree_blocks.specs.NewBlocks.{IsNodeBlock}
 use Rattle.hamt_map.specs.Groups.{nodes_under}
 use Rattle.hamt_map.specs.Node.{node_block, nodes}
-use Rattle.hamt_map.proofs.NewBlocks.{nodes_own}
+use Rattle.hamt_map.proofs.NodeBlocks.{nodes_own}
 use Rattle.hamt_map.proofs.NodeParts.{nodes_are}
 use Rattle.hamt_map.proofs.nodes.all_nodes.Goals as goal
 use Rattle.hamt_map.proofs.nodes.all_nodes.Goals.{In_ok-push}

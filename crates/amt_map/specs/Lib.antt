@@ -1,0 +1,10 @@
+pub mod Pairs
+pub mod Node
+pub mod Depth
+pub mod Walk
+pub mod Holds
+pub mod Stands
+pub mod OneNode
+pub mod NodeText
+pub mod Reading
+pub mod Loading

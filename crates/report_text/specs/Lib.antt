@@ -1,0 +1,2 @@
+pub mod Form0Text
+pub mod Text

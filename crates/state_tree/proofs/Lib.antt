@@ -1,0 +1,10 @@
+pub mod Keys
+pub mod RecordRead
+pub mod PlainRecord
+pub mod FindRecords
+pub mod Over
+pub mod PairTests
+pub mod Calls
+pub mod LoadSteps
+pub mod OneState
+pub mod OneActor

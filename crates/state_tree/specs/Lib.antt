@@ -1,0 +1,5 @@
+pub mod ActorPairs
+pub mod Actors
+pub mod ActorsTree
+pub mod Reading
+pub mod Stands

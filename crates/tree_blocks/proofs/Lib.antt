@@ -1,0 +1,4 @@
+pub mod NewBlocks
+pub mod ForEach
+pub mod PutNew
+mod SetBits

@@ -1,0 +1,3 @@
+pub mod NewBlocks
+pub mod Forms
+pub mod Judging
