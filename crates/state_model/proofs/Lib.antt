@@ -1,0 +1,5 @@
+mod NewBeside
+mod RecordsAgain
+mod NamesAgain
+mod InitHead
+mod LoadedAgain

@@ -1,5 +1,5 @@
 -- A state: what messages run over (the Filecoin specification, "State Tree").
-use Rattle.std.specs.Prelude.{◌≡◌, ◌+◌, ◌≤◌, ℕ, Bool, List, [], ◌∷◌, ◌++◌, nat_le, nat_lt, ◌&&◌}
+use Rattle.std.specs.Prelude.{◌+◌, ◌<◌, ◌^◌, ℕ, Bool, List, [], ◌++◌, length, nat_le, nat_lt, ◌&&◌}
 use Rattle.std.specs.FinMap.{entries, get, insert}
 use Rattle.std.specs.List.{list_all}
 use Rattle.std.specs.declared.option.Option.{Option}
@@ -34,12 +34,21 @@ pub record IsState (s : State) : Type 0 where
   pub init : IsInitState (init_of s)
   pub info : IsCid s.info
 
+-- the actors are fewer than 2^64, and so are the names: only then their trees have spellings
+pub record HaveCount (s : State) : Type 0 where
+  pub actors : length (entries s.actors) < 2 ^ 64
+  pub names : length (entries s.names) < 2 ^ 64
+
 -- the actors, of which the init actor has its state as head
 abbrev pub with_init_head : State → Actors
 with_init_head s = with_head (get s.actors 1) where
   with_head : Option Actor → Actors
   with_head None = s.actors
   with_head (Some init) = insert s.actors 1 (record init { head = init_head (init_of s) })
+
+-- the state as it is flushed: the init actor has its head, and nothing was made, minted or burned
+abbrev pub flushed : State → State
+flushed s = record s { actors = with_init_head s; made = []; minted = 0; burned = 0 }
 
 -- the blocks of a state: those of the names, the init actor's state, those of the actors, and the root's last
 abbrev pub state_nodes : State → List BlockParts

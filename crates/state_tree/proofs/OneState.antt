@@ -26,7 +26,8 @@ none_from_2_to_the_63 : (actors : Actors) (id : ℕ) → AreActors actors → 2 
 none_from_2_to_the_63 actors id are great =
     finmap.get-entries actors id ∙ apart_is_new id (entries actors) (λ k d within. let small = (are k d within).0 in grind (arith, nat_tests, small, great))
 
-one_record : (a b : Actors) → AreActors a → AreActors b → records a ≡ records b → a ≡ b
+-- records are those of one map of actors at most
+pub one_record : (a b : Actors) → AreActors a → AreActors b → records a ≡ records b → a ≡ b
 one_record a b are-a are-b is = finmap.same_map nat_cmp_total finmap.nat_cmp-IsAntisymmetric a b (λ id.
     elim (cases_lt id (2 ^ 63)) [
       | inl small ↦ same_actor (get a id) (get b id) (λ x e. found_is_actor a id x are-a e) (λ x e. found_is_actor b id x are-b e)
