@@ -1,3 +1,4 @@
+pub mod ByteCounts
 pub mod FieldLaws
 pub mod Form0Laws
 pub mod MessageLaws

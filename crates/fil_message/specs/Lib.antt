@@ -1,5 +1,6 @@
 pub mod Layout
 pub mod Sound
+pub mod Tipsets
 pub mod Readers
 pub mod Reading
 pub mod Form0Layout

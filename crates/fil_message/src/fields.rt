@@ -10,7 +10,7 @@ use fil_address::{Address, from_bytes};
 use fil_base::ActorId;
 
 /// The number up to the greatest one at this place of a list.
-pub(crate) fn number_at(list: &[Value], at: usize, greatest: u64) -> Result<u64, FieldFault>
+pub fn number_at(list: &[Value], at: usize, greatest: u64) -> Result<u64, FieldFault>
     requires { at < 2 ^ 32 }
     ensures { result ≡ field (up_to greatest) list.now at }
 {
@@ -23,7 +23,7 @@ pub(crate) fn number_at(list: &[Value], at: usize, greatest: u64) -> Result<u64,
 }
 
 /// The number at this place of a list, if it is just this one.
-pub(crate) fn just_at(list: &[Value], at: usize, expected: u64) -> Result<u64, FieldFault>
+pub fn just_at(list: &[Value], at: usize, expected: u64) -> Result<u64, FieldFault>
     requires { at < 2 ^ 32 }
     ensures { result ≡ field (just expected) list.now at }
 {
@@ -36,7 +36,7 @@ pub(crate) fn just_at(list: &[Value], at: usize, expected: u64) -> Result<u64, F
 }
 
 /// The ID of an actor at this place of a list.
-pub(crate) fn id_at(list: &[Value], at: usize) -> Result<ActorId, FieldFault>
+pub fn id_at(list: &[Value], at: usize) -> Result<ActorId, FieldFault>
     requires { at < 2 ^ 32 }
     ensures { result ≡ field (up_to (2 ^ 63 - 1)) list.now at }
 {
@@ -67,7 +67,7 @@ fn address_in(bytes: &[u8], at: usize) -> Result<Address, FieldFault>
 }
 
 /// The items of the list at this place of a list.
-pub(crate) fn items_at(list: &[Value], at: usize) -> Result<&[Value], FieldFault>
+pub fn items_at(list: &[Value], at: usize) -> Result<&[Value], FieldFault>
     requires { at < 2 ^ 32 }
     ensures found { IfOk result (λ items. field items_of list.now at ≡ Ok items.now) }
     ensures fault { IfErr result (λ fault. field items_of list.now at ≡ Err fault) }

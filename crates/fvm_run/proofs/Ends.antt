@@ -1,19 +1,23 @@
 -- The status with which a command ends.
-use Rattle.std.proofs.Common.{◌≡◌, ◌⊎◌, ℕ, ◌≤◌, List, length, Option, Some, Result, Ok, Err, IfOk, IfErr, OnOk, OnErr, inl, inr, refl, sym, subst}
+use Rattle.std.proofs.Common.{◌≡◌, ◌⊎◌, ℕ, ◌≤◌, List, length, Option, Some, Result, Ok, Err, IfOk, IfErr, IsOkAnd, OnOk, OnErr, inl, inr, refl, sym, subst}
+use Rattle.std.specs.Io.KnownBytes.{IsAtEnd}
 use Rattle.outside_io.specs.Causes.{Rose}
 use Rattle.fvm_run.specs.declared.command.Command.{Command}
 use Rattle.fvm_run.specs.declared.status.Status.{Status}
 use Rattle.fvm_run.specs.declared.status.Status.TheVariants as status
 use Rattle.fvm_run.specs.declared.stop.Stop.{Stop}
 use Rattle.fvm_run.specs.declared.stop.Stop.TheVariants.{ReadFailed, NoMemory, Refused}
-use Rattle.fvm_run.specs.Answers.{Answers}
-use Rattle.fvm_run.specs.Stops.{HasCauseOfStop, status_of_stop}
-use Rattle.fvm_run.specs.Headline.{AnswersText, IsStatusOf, HasReadAll}
+use Rattle.fvm_run.specs.declared.command.Command.TheVariants.{Run}
+use Rattle.fvm_run.specs.declared.input.TheConstants.{INPUT_LIMIT}
+use Rattle.fvm_run.specs.declared.refusal.Refusal.TheVariants as refusal
+use Rattle.fvm_run.specs.Answers.{Answers, Had, IsRunAnswer}
+use Rattle.fvm_run.specs.Stops.{HasCauseOfStop, IfRefused, status_of_stop}
+use Rattle.fvm_run.specs.Headline.{AnswersText, HasReadAll, IsCauseOfRefusal, IsStatusOf}
 
 -- where neither the source nor the sink failed, the status is that of the answer, or there was no memory
 pub complete_of : (words : Option Command) (command : Command) (left new : Option (List ℕ)) (before now : ℕ) (Failed : Type 0) (text : Result (List ℕ) Stop) (end : Status) →
     words ≡ Some command → IfOk text (λ t. Answers command left (Ok t)) → IfErr text (HasCauseOfStop command left new before now) →
-    OnOk text ((end ≡ status.Done) ⊎ (end ≡ status.WriteFault)) → IfErr text (λ stop. end ≡ status_of_stop stop) → (end ≡ status.WriteFault → Failed) →
+    OnOk text ((end ≡ status.Done) ⊎ (end ≡ status.WriteFault)) → IfErr text (λ stop. (end ≡ status_of_stop stop) ⊎ (end ≡ status.NoMemory)) → (end ≡ status.WriteFault → Failed) →
     (Rose before now → ⊥) → (Failed → ⊥) → (end ≡ status.NoMemory) ⊎ IsStatusOf words left end
 complete_of words command left new before now Failed (Ok text) end is answers stops written ended fault source sink =
     elim written [
@@ -21,9 +25,13 @@ complete_of words command left new before now Failed (Ok text) end is answers st
       | inr failed ↦ absurd (sink (fault failed))
     ]
 complete_of words command left new before now Failed (Err ReadFailed) end is answers stops written ended fault source sink = absurd (source stops)
-complete_of words command left new before now Failed (Err NoMemory) end is answers stops written ended fault source sink = inl ended
+complete_of words command left new before now Failed (Err NoMemory) end is answers stops written ended fault source sink =
+    elim ended [ inl same ↦ inl same | inr none ↦ inl none ]
 complete_of words command left new before now Failed (Err (Refused refusal)) end is answers stops written ended fault source sink =
-    inr (subst (λ w. IsStatusOf w left end) (sym is) (Err refusal, stops.0, ended))
+    elim ended [
+      | inl same ↦ inr (subst (λ w. IsStatusOf w left end) (sym is) (Err refusal, stops.0, same))
+      | inr none ↦ inl none
+    ]
 
 -- a sink that surely takes each text that may be the answer does not fail
 pub calm_of : (words : Option Command) (command : Command) (left new : Option (List ℕ)) (before now sure : ℕ) (text : Result (List ℕ) Stop) →
@@ -33,3 +41,44 @@ pub calm_of : (words : Option Command) (command : Command) (left new : Option (L
 calm_of words command left new before now sure (Ok text) is answers read calm stopped enough =
     calm (enough text (subst (λ w. AnswersText w left new (λ u. u ≡ text)) (sym is) (text, answers, read, refl)))
 calm_of words command left new before now sure (Err stop) is answers read calm stopped enough = stopped
+
+-- the text of a command is the answer
+pub text_of : (words : Option Command) (command : Command) (left new : Option (List ℕ)) (text : Result (List ℕ) Stop) (P : List ℕ → Type 0) →
+    words ≡ Some command → IfOk text (λ t. Answers command left (Ok t)) → OnOk text (HasReadAll command new) → IsOkAnd text P → AnswersText words left new P
+text_of words command left new (Ok text) P is answers read holds =
+    subst (λ w. AnswersText w left new P) (sym is) (text, answers, read, holds)
+text_of words command left new (Err stop) P is answers read holds = absurd holds
+
+-- a refusal is the answer
+pub refused_of : (words : Option Command) (command : Command) (left new : Option (List ℕ)) (before now : ℕ) (text : Result (List ℕ) Stop) (end : Status) →
+    words ≡ Some command → IfErr text (HasCauseOfStop command left new before now) → OnOk text ((end ≡ status.Done) ⊎ (end ≡ status.WriteFault)) →
+    IfErr text (λ stop. (end ≡ status_of_stop stop) ⊎ (end ≡ status.NoMemory)) → IsCauseOfRefusal words left new end
+refused_of words command left new before now text end is stops written ended =
+    subst (λ w. IsCauseOfRefusal w left new end) (sym is) (by text stops written ended)
+  where
+    ended_as : (e : Status) → end ≡ e → IsCauseOfRefusal (Some command) left new e → IsCauseOfRefusal (Some command) left new end
+    ended_as e same = subst (IsCauseOfRefusal (Some command) left new) (sym same)
+
+    by : (r : Result (List ℕ) Stop) → IfErr r (HasCauseOfStop command left new before now) → OnOk r ((end ≡ status.Done) ⊎ (end ≡ status.WriteFault)) →
+        IfErr r (λ stop. (end ≡ status_of_stop stop) ⊎ (end ≡ status.NoMemory)) → IsCauseOfRefusal (Some command) left new end
+    by (Ok text) stops (inl same) ended = ended_as status.Done same tt
+    by (Ok text) stops (inr same) ended = ended_as status.WriteFault same tt
+    by (Err ReadFailed) stops written (inl same) = ended_as status.ReadFault same tt
+    by (Err ReadFailed) stops written (inr same) = ended_as status.NoMemory same tt
+    by (Err NoMemory) stops written (inl same) = ended_as status.NoMemory same tt
+    by (Err NoMemory) stops written (inr same) = ended_as status.NoMemory same tt
+    by (Err (Refused refusal)) stops written (inl same) = ended_as (status.Refused refusal) same stops
+    by (Err (Refused refusal)) stops written (inr same) = ended_as status.NoMemory same tt
+
+-- the refusal of an input that was read to its end is the answer to it
+pub stop_of : (left new : Option (List ℕ)) (before now : ℕ) (bytes : List ℕ) (text : Result (List ℕ) Stop) → Had left bytes → IsAtEnd new → length bytes ≤ INPUT_LIMIT →
+    IfErr text (IfRefused (λ refusal. IsRunAnswer bytes (Err refusal))) → IfErr text (HasCauseOfStop Run left new before now)
+stop_of left new before now bytes (Ok text) had end short answers = tt
+stop_of left new before now bytes (Err ReadFailed) had end short answers = absurd answers
+stop_of left new before now bytes (Err NoMemory) had end short answers = tt
+stop_of left new before now bytes (Err (Refused refusal.TooLong)) had end short answers = absurd answers
+stop_of left new before now bytes (Err (Refused (refusal.Car fault))) had end short answers = ((bytes, had, (short, answers)), end)
+stop_of left new before now bytes (Err (Refused (refusal.Cbor fault))) had end short answers = ((bytes, had, (short, answers)), end)
+stop_of left new before now bytes (Err (Refused (refusal.Form fault))) had end short answers = ((bytes, had, (short, answers)), end)
+stop_of left new before now bytes (Err (Refused (refusal.Scenario fault))) had end short answers = ((bytes, had, (short, answers)), end)
+stop_of left new before now bytes (Err (Refused (refusal.NotBuilt n))) had end short answers = ((bytes, had, (short, answers)), end)

@@ -1,99 +1,172 @@
 -- An input has one answer at most.
-use Rattle.std.proofs.Common.{◌≡◌, ◌⊎◌, ◌<◌, ◌≤◌, inl, inr, ℕ, List, [], ◌++◌, Result, Ok, Err, length, refl, sym, ap, ◌∙◌, arith}
+use Rattle.std.proofs.Common.{◌≡◌, ◌⊎◌, ℕ, ◌<◌, ◌≤◌, inl, inr, List, [], ◌++◌, Option, None, Some, Result, Ok, Err, length, refl, sym, ap, subst, ◌∙◌, arith}
+use Rattle.block_base.specs.Base.{base_of}
+use Rattle.car_file.specs.Car.{car}
+use Rattle.car_file.specs.CarFault.{IsCarFault}
+use Rattle.car_file.specs.declared.fault.CarFault.{CarFault}
+use Rattle.car_file.proofs.Archives.{archive_has_no_fault, one_car, one_fault as one_car_fault}
+use Rattle.cid_core.specs.BlockParts.{BlockParts}
 use Rattle.dag_cbor.specs.declared.value.Value.{Value}
 use Rattle.dag_cbor.specs.declared.fault.CborFault.{CborFault}
 use Rattle.dag_cbor.specs.Faults.{IsFault}
 use Rattle.dag_cbor.proofs.OneFault.{one_fault, nothing_spelled}
 use Rattle.dag_cbor.proofs.OneSpelling.{one_spelling}
+use Rattle.fil_base.specs.CidParts.{CidParts}
 use Rattle.fil_message.specs.declared.form0.Form0.{Form0}
 use Rattle.fil_message.specs.declared.form_fault.FormFault.{FormFault}
+use Rattle.fil_message.specs.declared.tipset.Tipset.{Tipset}
 use Rattle.fil_message.specs.Form0Layout.{form_value}
 use Rattle.fil_message.specs.Form0Reading.{form0_of}
-use Rattle.fil_message.specs.Form0Sound.{IsForm0}
-use Rattle.tipset_exec.specs.Report.{report_of}
-use Rattle.report_text.specs.Form0Text.{form0_text}
 use Rattle.fil_message.proofs.Form0Laws.{form_again}
+use Rattle.gas_prices.specs.declared.rules.Rules.{Rules}
+use Rattle.report_text.specs.Form0Text.{form0_text}
+use Rattle.report_text.specs.Text.{reports_text}
+use Rattle.scenario_form.specs.Answer.{IsScenario, IsScenarioFault}
+use Rattle.scenario_form.specs.declared.fault.ScenarioFault.{ScenarioFault}
+use Rattle.scenario_form.specs.declared.scenario.Scenario.{Scenario}
+use Rattle.state_model.specs.State.{State}
+use Rattle.tipset_exec.specs.Report.{report_of}
 use Rattle.fvm_run.specs.declared.command.Command.{Command}
 use Rattle.fvm_run.specs.declared.command.Command.TheVariants.{Run}
 use Rattle.fvm_run.specs.declared.input.TheConstants.{INPUT_LIMIT}
 use Rattle.fvm_run.specs.declared.refusal.Refusal.{Refusal}
-use Rattle.fvm_run.specs.declared.refusal.Refusal.TheVariants.{TooLong, CarNotBuilt, Cbor, Form}
-use Rattle.fvm_run.specs.Answers.{IsAnswer, IsRunAnswer, Spells}
+use Rattle.fvm_run.specs.declared.refusal.Refusal.TheVariants as refusal
+use Rattle.fvm_run.specs.Answers.{BeginsAsList, IsAnswer, IsRunAnswer, Spells}
+use Rattle.fvm_run.specs.Cars.{HaveStates, IsLoaded, first_not_built, reports_on}
+use Rattle.fvm_run.proofs.States.{same_states}
+
+abbrev Answer : Type 0
+Answer = Result (List ℕ) Refusal
+
+-- ---- account lists
 
 -- an input spells one value at most
 one_value : (input : List ℕ) (x y : Value) → Spells input x → Spells input y → x ≡ y
 one_value input x y spells_x spells_y =
     (one_spelling x y [] [] spells_x.plain spells_y.plain (ap (λ t. t ++ []) (sym spells_x.bytes ∙ spells_y.bytes))).0
 
--- what is given, or else d
-abbrev given_or : {A E : Type 0} → A → Result A E → A
-given_or d (Ok x) = x
-given_or d (Err fault) = d
+-- the answer to a value
+abbrev list_answer : Result Form0 FormFault → Answer
+list_answer (Ok form) = Ok (form0_text (report_of form))
+list_answer (Err fault) = Err (refusal.Form fault)
 
--- the fault, or else d
-abbrev fault_or : {A E : Type 0} → E → Result A E → E
-fault_or d (Ok x) = d
-fault_or d (Err fault) = fault
+-- the answer to an account list: its fault as DAG-CBOR, or that of the value that it spells
+abbrev IsListAnswer : List ℕ → Answer → Type 0
+IsListAnswer input a =
+    ((fault : CborFault) × IsFault input fault × (a ≡ Err (refusal.Cbor fault)))
+    ⊎ ((value : Value) × Spells input value × (a ≡ list_answer (form0_of value)))
 
-ok_same : {A E : Type 0} (r : Result A E) (x y : A) → r ≡ Ok x → r ≡ Ok y → x ≡ y
-ok_same r x y is_x is_y = ap (given_or x) (sym is_x ∙ is_y)
+one_list_answer : (input : List ℕ) (a b : Answer) → IsListAnswer input a → IsListAnswer input b → a ≡ b
+one_list_answer input a b (inl (f, is, at)) (inl (g, is', at')) =
+    at ∙ (ap (λ fault. Err (refusal.Cbor fault)) (one_fault input f g is is') ∙ sym at')
+one_list_answer input a b (inl (f, is, at)) (inr (value, spells, at')) = absurd (nothing_spelled input f is value spells.plain spells.bytes)
+one_list_answer input a b (inr (value, spells, at)) (inl (f, is, at')) = absurd (nothing_spelled input f is value spells.plain spells.bytes)
+one_list_answer input a b (inr (x, spells, at)) (inr (y, spells', at')) =
+    at ∙ (ap (λ value. list_answer (form0_of value)) (one_value input x y spells spells') ∙ sym at')
 
-err_same : {A E : Type 0} (r : Result A E) (a b : E) → r ≡ Err a → r ≡ Err b → a ≡ b
-err_same r a b is_a is_b = ap (fault_or a) (sym is_a ∙ is_b)
+-- ---- scenarios
 
--- a value is that of one account list at most
-same_forms : (f g : Form0) → IsForm0 f → IsForm0 g → form_value f ≡ form_value g → f ≡ g
-same_forms f g sound sound' same = ok_same (form0_of (form_value g)) f g (ap form0_of (sym same) ∙ form_again f sound) (form_again g sound')
+-- blocks and a root have one scenario or one fault
+pub record ScenarioLaws : Type 0 where
+  pub one : (blocks : List BlockParts) (root : CidParts) (a b : Scenario) → IsScenario blocks root a → IsScenario blocks root b → a ≡ b
+  pub accepted : (blocks : List BlockParts) (root : CidParts) (s : Scenario) (fault : ScenarioFault) → IsScenario blocks root s → IsScenarioFault blocks root fault → ⊥
+  pub one_fault : (blocks : List BlockParts) (root : CidParts) (a b : ScenarioFault) → IsScenarioFault blocks root a → IsScenarioFault blocks root b → a ≡ b
 
-one_text : (input : List ℕ) (f g : Form0) (t u : List ℕ) → IsForm0 f → IsForm0 g → Spells input (form_value f) → Spells input (form_value g) →
-    t ≡ form0_text (report_of f) → u ≡ form0_text (report_of g) → t ≡ u
-one_text input f g t u sound sound' spells_f spells_g is_t is_u =
-    is_t ∙ (ap (λ form. form0_text (report_of form)) (same_forms f g sound sound' (one_value input (form_value f) (form_value g) spells_f spells_g)) ∙ sym is_u)
+-- the answer to tipsets with their states, of which this one is the first that is not evaluated
+abbrev tipsets_answer : List BlockParts → Rules → List (Tipset × State) → Option ℕ → Answer
+tipsets_answer blocks rules pairs None = Ok (reports_text (reports_on blocks rules pairs))
+tipsets_answer blocks rules pairs (Some n) = Err (refusal.NotBuilt n)
 
-one_form_fault : (input : List ℕ) (x y : Value) (a b : FormFault) → Spells input x → Spells input y → form0_of x ≡ Err a → form0_of y ≡ Err b → a ≡ b
-one_form_fault input x y a b spells spells' is_a is_b = err_same (form0_of x) a b is_a (ap form0_of (one_value input x y spells spells') ∙ is_b)
+-- the answer to the blocks of a file: their fault, or that to the tipsets of the scenario
+abbrev IsBlocksAnswer : List BlockParts → CidParts → Answer → Type 0
+IsBlocksAnswer blocks root a =
+    ((fault : ScenarioFault) × IsScenarioFault blocks root fault × (a ≡ Err (refusal.Scenario fault)))
+    ⊎ ((s : Scenario) × IsScenario blocks root s × (pairs : List (Tipset × State)) × HaveStates blocks s.rules s.tipsets pairs
+    × (a ≡ tipsets_answer blocks s.rules pairs (first_not_built 0 pairs)))
 
--- no input has both a text and a refusal
-not_both : (input : List ℕ) (t : List ℕ) (refusal : Refusal) → IsRunAnswer input (Ok t) → IsRunAnswer input (Err refusal) → ⊥
-not_both input t TooLong answers other = other
-not_both input t CarNotBuilt answers other = other answers.0
-not_both input t (Cbor fault) (begins, f, sound, spells, is_t) (_, none) = nothing_spelled input fault none (form_value f) spells.plain spells.bytes
-not_both input t (Form fault) (begins, f, sound, spells, is_t) (_, value, spells', is) =
-    by (sym (form_again f sound) ∙ (ap form0_of (one_value input (form_value f) value spells spells') ∙ is)) where
-      by : Ok f ≡ Err fault → ⊥
-      by e = cc
+one_of_scenarios : (blocks : List BlockParts) (s t : Scenario) (ps qs : List (Tipset × State)) → s ≡ t → HaveStates blocks s.rules s.tipsets ps → HaveStates blocks t.rules t.tipsets qs →
+    tipsets_answer blocks s.rules ps (first_not_built 0 ps) ≡ tipsets_answer blocks t.rules qs (first_not_built 0 qs)
+one_of_scenarios blocks s t ps qs same have have' =
+    let had : HaveStates blocks s.rules s.tipsets qs = subst (λ (u : Scenario). HaveStates blocks u.rules u.tipsets qs) (sym same) have' in
+    let pairs : ps ≡ qs = same_states blocks s.rules s.tipsets ps qs have had in
+    λ j. tipsets_answer blocks (same j).rules (pairs j) (first_not_built 0 (pairs j))
 
-one_refusal : (input : List ℕ) (a b : Refusal) → IsRunAnswer input (Err a) → IsRunAnswer input (Err b) → a ≡ b
-one_refusal input TooLong b answers other = absurd answers
-one_refusal input CarNotBuilt TooLong answers other = absurd other
-one_refusal input CarNotBuilt CarNotBuilt answers other = refl
-one_refusal input CarNotBuilt (Cbor fault) answers other = absurd (answers other.0)
-one_refusal input CarNotBuilt (Form fault) answers other = absurd (answers other.0)
-one_refusal input (Cbor a) TooLong answers other = absurd other
-one_refusal input (Cbor a) CarNotBuilt answers other = absurd (other answers.0)
-one_refusal input (Cbor a) (Cbor b) answers other = ap Cbor (one_fault input a b answers.1 other.1)
-one_refusal input (Cbor a) (Form b) (_, none) (_, value, spells, _) = absurd (nothing_spelled input a none value spells.plain spells.bytes)
-one_refusal input (Form a) TooLong answers other = absurd other
-one_refusal input (Form a) CarNotBuilt answers other = absurd (other answers.0)
-one_refusal input (Form a) (Cbor b) (_, value, spells, _) (_, none) = absurd (nothing_spelled input b none value spells.plain spells.bytes)
-one_refusal input (Form a) (Form b) (_, x, spells, is_a) (_, y, spells', is_b) = ap Form (one_form_fault input x y a b spells spells' is_a is_b)
+one_blocks_answer : ScenarioLaws → (blocks : List BlockParts) (root : CidParts) (a b : Answer) → IsBlocksAnswer blocks root a → IsBlocksAnswer blocks root b → a ≡ b
+one_blocks_answer laws blocks root a b (inl (f, is, at)) (inl (g, is', at')) =
+    at ∙ (ap (λ fault. Err (refusal.Scenario fault)) (laws.one_fault blocks root f g is is') ∙ sym at')
+one_blocks_answer laws blocks root a b (inl (f, is, at)) (inr (s, read, qs, have, at')) = absurd (laws.accepted blocks root s f read is)
+one_blocks_answer laws blocks root a b (inr (s, read, ps, have, at)) (inl (f, is, at')) = absurd (laws.accepted blocks root s f read is)
+one_blocks_answer laws blocks root a b (inr (s, read, ps, have, at)) (inr (t, read', qs, have', at')) =
+    at ∙ (one_of_scenarios blocks s t ps qs (laws.one blocks root s t read read') have have' ∙ sym at')
 
-one_run_answer : (input : List ℕ) (a b : Result (List ℕ) Refusal) → IsRunAnswer input a → IsRunAnswer input b → a ≡ b
-one_run_answer input (Ok t) (Ok u) (begins, f, sound, spells, is_t) (begins', g, sound', spells', is_u) = ap Ok (one_text input f g t u sound sound' spells spells' is_t is_u)
-one_run_answer input (Ok t) (Err b) answers other = absurd (not_both input t b answers other)
-one_run_answer input (Err a) (Ok u) answers other = absurd (not_both input u a other answers)
-one_run_answer input (Err a) (Err b) answers other = ap Err (one_refusal input a b answers other)
+-- ---- CAR files
+
+-- the answer to a CAR file: its fault, or that to its blocks
+abbrev IsCarAnswer : List ℕ → Answer → Type 0
+IsCarAnswer input a =
+    ((fault : CarFault) × IsCarFault input fault × (a ≡ Err (refusal.Car fault)))
+    ⊎ ((root : CidParts) × (blocks : List BlockParts) × IsLoaded input root blocks × IsBlocksAnswer blocks root a)
+
+loaded_has_no_fault : (input : List ℕ) (root : CidParts) (blocks : List BlockParts) (fault : CarFault) → IsLoaded input root blocks → IsCarFault input fault → ⊥
+loaded_has_no_fault input root blocks fault is faulty =
+    archive_has_no_fault root is.blocks fault is.archive (subst (λ bytes. IsCarFault bytes fault) is.bytes faulty)
+
+one_loaded : (input : List ℕ) (r s : CidParts) (x y : List BlockParts) → IsLoaded input r x → IsLoaded input s y → (r ≡ s) × (x ≡ y)
+one_loaded input r s x y is is' =
+    let same = one_car r s is.blocks is'.blocks is.archive is'.archive (sym is.bytes ∙ is'.bytes) in
+    (same.0, is.base ∙ (ap base_of same.1 ∙ sym is'.base))
+
+one_car_answer : ScenarioLaws → (input : List ℕ) (a b : Answer) → IsCarAnswer input a → IsCarAnswer input b → a ≡ b
+one_car_answer laws input a b (inl (f, is, at)) (inl (g, is', at')) =
+    at ∙ (ap (λ fault. Err (refusal.Car fault)) (one_car_fault input f g is is') ∙ sym at')
+one_car_answer laws input a b (inl (f, is, at)) (inr (r, x, loaded, answers)) = absurd (loaded_has_no_fault input r x f loaded is)
+one_car_answer laws input a b (inr (r, x, loaded, answers)) (inl (f, is, at)) = absurd (loaded_has_no_fault input r x f loaded is)
+one_car_answer laws input a b (inr (r, x, loaded, answers)) (inr (s, y, loaded', answers')) =
+    let same = one_loaded input r s x y loaded loaded' in
+    one_blocks_answer laws x r a b answers
+    (subst (λ blocks. IsBlocksAnswer blocks r b) (sym same.1) (subst (λ root. IsBlocksAnswer y root b) (sym same.0) answers'))
+
+-- ---- all inputs
+
+-- an input that is not too long is an account list or a CAR file, and has the answer to it
+list_or_car : (input : List ℕ) (a : Answer) → IsRunAnswer input a → (BeginsAsList input × IsListAnswer input a) ⊎ ((BeginsAsList input → ⊥) × IsCarAnswer input a)
+list_or_car input (Ok text) (inl (begins, (form, sound, spells, is))) =
+    inl (begins, inr (form_value form, spells, ap Ok is ∙ sym (ap list_answer (form_again form sound))))
+list_or_car input (Ok text) (inr (other, (root, blocks, loaded, s, read, (pairs, have, built, is)))) =
+    inr (other, inr (root, blocks, loaded, inr (s, read, pairs, have, ap Ok is ∙ sym (ap (tipsets_answer blocks s.rules pairs) built))))
+list_or_car input (Err refusal.TooLong) answers = absurd answers
+list_or_car input (Err (refusal.Car fault)) (other, is) = inr (other, inl (fault, is, refl))
+list_or_car input (Err (refusal.Cbor fault)) (begins, is) = inl (begins, inl (fault, is, refl))
+list_or_car input (Err (refusal.Form fault)) (begins, value, spells, is) = inl (begins, inr (value, spells, sym (ap list_answer is)))
+list_or_car input (Err (refusal.Scenario fault)) (other, (root, blocks, loaded, is)) = inr (other, inr (root, blocks, loaded, inl (fault, is, refl)))
+list_or_car input (Err (refusal.NotBuilt n)) (other, (root, blocks, loaded, s, read, (pairs, have, first))) =
+    inr (other, inr (root, blocks, loaded, inr (s, read, pairs, have, sym (ap (tipsets_answer blocks s.rules pairs) first))))
+
+one_run_answer : ScenarioLaws → (input : List ℕ) (a b : Answer) → IsRunAnswer input a → IsRunAnswer input b → a ≡ b
+one_run_answer laws input a b answers other =
+    elim (list_or_car input a answers) [
+      | inl list ↦ elim (list_or_car input b other) [
+        | inl list' ↦ one_list_answer input a b list.1 list'.1
+        | inr car ↦ absurd (car.0 list.0)
+      ]
+      | inr car ↦ elim (list_or_car input b other) [
+        | inl list ↦ absurd (car.0 list.0)
+        | inr car' ↦ one_car_answer laws input a b car.1 car'.1
+      ]
+    ]
 
 -- what is not too long has an answer of its own, and what is too long has none but that
-within_limit : (input : List ℕ) (a : Result (List ℕ) Refusal) → IsAnswer Run input a → ((a ≡ Err TooLong) × (INPUT_LIMIT < length input)) ⊎ ((length input ≤ INPUT_LIMIT) × IsRunAnswer input a)
+within_limit : (input : List ℕ) (a : Answer) → IsAnswer Run input a → ((a ≡ Err refusal.TooLong) × (INPUT_LIMIT < length input)) ⊎ ((length input ≤ INPUT_LIMIT) × IsRunAnswer input a)
 within_limit input (Ok t) answers = inr answers
-within_limit input (Err TooLong) answers = inl (refl, answers)
-within_limit input (Err CarNotBuilt) answers = inr answers
-within_limit input (Err (Cbor fault)) answers = inr answers
-within_limit input (Err (Form fault)) answers = inr answers
+within_limit input (Err refusal.TooLong) answers = inl (refl, answers)
+within_limit input (Err (refusal.Car fault)) answers = inr answers
+within_limit input (Err (refusal.Cbor fault)) answers = inr answers
+within_limit input (Err (refusal.Form fault)) answers = inr answers
+within_limit input (Err (refusal.Scenario fault)) answers = inr answers
+within_limit input (Err (refusal.NotBuilt n)) answers = inr answers
 
-pub one_answer_of : (command : Command) (input : List ℕ) (a b : Result (List ℕ) Refusal) → IsAnswer command input a → IsAnswer command input b → a ≡ b
-one_answer_of Run input a b answers other =
+pub one_answer_of : ScenarioLaws → (command : Command) (input : List ℕ) (a b : Answer) → IsAnswer command input a → IsAnswer command input b → a ≡ b
+one_answer_of laws Run input a b answers other =
     elim (within_limit input a answers) [
       | inl long ↦ elim (within_limit input b other) [
         | inl long' ↦ long.0 ∙ sym long'.0
@@ -101,6 +174,6 @@ one_answer_of Run input a b answers other =
       ]
       | inr short ↦ elim (within_limit input b other) [
         | inl long ↦ absurd (omega (arith, long.1, short.0))
-        | inr short' ↦ one_run_answer input a b short.1 short'.1
+        | inr short' ↦ one_run_answer laws input a b short.1 short'.1
       ]
     ]

@@ -1,4 +1,5 @@
 pub mod Commands
+pub mod Cars
 pub mod Answers
 pub mod Stops
 pub mod Statuses

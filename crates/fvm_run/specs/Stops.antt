@@ -2,13 +2,15 @@
 use Rattle.std.specs.Prelude.{ℕ, List, Option, Err}
 use Rattle.fil_base.specs.declared.failure.Failure.{Failure}
 use Rattle.fil_base.specs.declared.failure.Failure.TheVariants as failure
+use Rattle.car_file.specs.declared.fault.CarFault.{CarFault}
 use Rattle.dag_cbor.specs.declared.fault.CborFault.{CborFault}
 use Rattle.fil_message.specs.declared.form_fault.FormFault.{FormFault}
+use Rattle.scenario_form.specs.declared.fault.ScenarioFault.{ScenarioFault}
 use Rattle.std.specs.Io.KnownBytes.{IsAtEnd}
 use Rattle.outside_io.specs.Causes.{Rose}
 use Rattle.fvm_run.specs.declared.command.Command.{Command}
 use Rattle.fvm_run.specs.declared.refusal.Refusal.{Refusal}
-use Rattle.fvm_run.specs.declared.refusal.Refusal.TheVariants.{TooLong, Cbor, Form}
+use Rattle.fvm_run.specs.declared.refusal.Refusal.TheVariants.{TooLong, Car, Cbor, Form, Scenario}
 use Rattle.fvm_run.specs.declared.status.Status.{Status}
 use Rattle.fvm_run.specs.declared.status.Status.TheVariants as status
 use Rattle.fvm_run.specs.declared.stop.Stop.{Stop}
@@ -16,6 +18,10 @@ use Rattle.fvm_run.specs.declared.stop.Stop.TheVariants.{ReadFailed, NoMemory, R
 use Rattle.fvm_run.specs.Answers.{Answers}
 
 -- no memory stays so, and a fault is a refusal
+abbrev pub car_stop : Failure CarFault → Stop
+car_stop failure.NoMemory = NoMemory
+car_stop (failure.Fault fault) = Refused (Car fault)
+
 abbrev pub cbor_stop : Failure CborFault → Stop
 cbor_stop failure.NoMemory = NoMemory
 cbor_stop (failure.Fault fault) = Refused (Cbor fault)
@@ -23,6 +29,10 @@ cbor_stop (failure.Fault fault) = Refused (Cbor fault)
 abbrev pub form_stop : Failure FormFault → Stop
 form_stop failure.NoMemory = NoMemory
 form_stop (failure.Fault fault) = Refused (Form fault)
+
+abbrev pub scenario_stop : Failure ScenarioFault → Stop
+scenario_stop failure.NoMemory = NoMemory
+scenario_stop (failure.Fault fault) = Refused (Scenario fault)
 
 -- the source was read to its end before a refusal, but for that of an input that is too long
 abbrev pub IsReadBefore : Refusal → Option (List ℕ) → Type 0

@@ -1,13 +1,14 @@
-ghost use Rattle.std.specs.Prelude.{◌≡◌, ◌⊎◌, ◌≤◌, ℕ, List, length, Ok, Err, None, Some, IfOk, IfErr, OnOk, OnErr, IsOkAnd};
+ghost use Rattle.std.specs.Prelude.{◌≡◌, ◌⊎◌, ◌≤◌, ℕ, List, length, Ok, Err, None, Some, IfOk, IfErr, IsTrue, OnOk, OnErr, IsOkAnd, ◌↔◌};
 ghost use Rattle.std.specs.Io.KnownBytes.{Appends};
 ghost use Rattle.outside_io.specs.Causes.{Rose};
 ghost use Rattle.fvm_run.specs.Commands.{named};
-ghost use Rattle.fvm_run.specs.Lines.{line};
+ghost use Rattle.fvm_run.specs.Lines.{cid_in_line, line};
 ghost use Rattle.fvm_run.specs.Stops.{status_of_stop};
 ghost use Rattle.fvm_run.specs.Writing.{TakesPrefix};
 ghost use Rattle.fvm_run.specs.Headline.{AnswersText, IsCauseOfRefusal, WritesNothing, IsStatusOf, Says};
 
 use crate::command::{Command, command_of};
+use crate::ending::{Ending, no_cid, refused};
 use crate::line::say;
 use crate::output::write_whole;
 use crate::running::run_text;
@@ -72,9 +73,9 @@ pub fn fvm_main<R: Threads + Wait + Sync, S: Source, K: Sink, E: Sink, G: Gate>(
         length text ≤ K.sure out.old) →
         K.faults out.new ≡ K.faults out.old }
 {
-    let status = answer(alloc, words, source, out);
-    if status != Status::Done {
-        say(faults, &status);
+    let Ending { status, cid } = answer(alloc, words, source, out);
+    if !is_done(&status) {
+        say(faults, &status, cid.as_slice());
     }
     status
 }
@@ -85,51 +86,69 @@ fn answer<S: Source, K: Sink>(
     words: &[String],
     source: &mut S,
     out: &mut K,
-) -> Status
-    ensures done { result ≡ Status.Done →
+) -> Ending
+    ensures done { result.status ≡ Status.Done →
         AnswersText (named words.now) (S.left source.old) (S.left source.new)
         (λ text. Appends (K.taken out.old) (K.taken out.new) text) }
     ensures words { named words.now ≡ None →
-        (result ≡ Status.Usage UsageFault.Words) × (source.new ≡ source.old) }
-    ensures refused { IsCauseOfRefusal (named words.now) (S.left source.old) (S.left source.new) result }
-    ensures silent { WritesNothing result → out.new ≡ out.old }
-    ensures read_fault { result ≡ Status.ReadFault → Rose (S.faults source.old) (S.faults source.new) }
-    ensures write_fault { result ≡ Status.WriteFault → Rose (K.faults out.old) (K.faults out.new) }
-    ensures written { result ≡ Status.WriteFault →
+        (result.status ≡ Status.Usage UsageFault.Words) × (source.new ≡ source.old) }
+    ensures refused { IsCauseOfRefusal (named words.now) (S.left source.old) (S.left source.new) result.status }
+    ensures silent { WritesNothing result.status → out.new ≡ out.old }
+    ensures read_fault { result.status ≡ Status.ReadFault → Rose (S.faults source.old) (S.faults source.new) }
+    ensures write_fault { result.status ≡ Status.WriteFault → Rose (K.faults out.old) (K.faults out.new) }
+    ensures written { result.status ≡ Status.WriteFault →
         AnswersText (named words.now) (S.left source.old) (S.left source.new)
         (TakesPrefix (K.taken out.old) (K.taken out.new)) }
     ensures complete { (Rose (S.faults source.old) (S.faults source.new) → ⊥) →
         (Rose (K.faults out.old) (K.faults out.new) → ⊥) →
-        (result ≡ Status.NoMemory) ⊎ IsStatusOf (named words.now) (S.left source.old) result }
+        (result.status ≡ Status.NoMemory) ⊎ IsStatusOf (named words.now) (S.left source.old) result.status }
     ensures calm { ((text : List ℕ) →
         AnswersText (named words.now) (S.left source.old) (S.left source.new) (λ t. t ≡ text) →
         length text ≤ K.sure out.old) →
         K.faults out.new ≡ K.faults out.old }
+    ensures cid { result.cid ≡ cid_in_line result.status }
 {
     match command_of(words) {
-        None => Status::Usage(UsageFault::Words),
-        Some(Command::Run) => finish(run_text(alloc, source), out),
+        None => no_cid(alloc, Status::Usage(UsageFault::Words)),
+        Some(Command::Run) => finish(alloc, run_text(alloc, source), out),
+    }
+}
+
+/// Whether the whole output was written.
+fn is_done(status: &Status) -> bool
+    ensures { IsTrue result ↔ (status.now ≡ Status.Done) }
+{
+    match status {
+        Status::Done => true,
+        Status::Usage(_) => false,
+        Status::Refused(_) => false,
+        Status::ReadFault => false,
+        Status::WriteFault => false,
+        Status::NoMemory => false,
     }
 }
 
 /// Writes the text, or says why there is none.
-fn finish<K: Sink>(text: Result<Bytes, Stop>, out: &mut K) -> Status
-    ensures done { result ≡ Status.Done → IsOkAnd text (λ t. Appends (K.taken out.old) (K.taken out.new) t) }
-    ensures written { result ≡ Status.WriteFault → IsOkAnd text (TakesPrefix (K.taken out.old) (K.taken out.new)) }
-    ensures write_fault { result ≡ Status.WriteFault → Rose (K.faults out.old) (K.faults out.new) }
-    ensures ok { OnOk text ((result ≡ Status.Done) ⊎ (result ≡ Status.WriteFault)) }
-    ensures err { IfErr text (λ stop. result ≡ status_of_stop stop) }
-    ensures silent { WritesNothing result → out.new ≡ out.old }
+fn finish<K: Sink>(alloc: Global, text: Result<Bytes, Stop>, out: &mut K) -> Ending
+    ensures done { result.status ≡ Status.Done →
+        IsOkAnd text (λ t. Appends (K.taken out.old) (K.taken out.new) t) }
+    ensures written { result.status ≡ Status.WriteFault →
+        IsOkAnd text (TakesPrefix (K.taken out.old) (K.taken out.new)) }
+    ensures write_fault { result.status ≡ Status.WriteFault → Rose (K.faults out.old) (K.faults out.new) }
+    ensures ok { OnOk text ((result.status ≡ Status.Done) ⊎ (result.status ≡ Status.WriteFault)) }
+    ensures err { IfErr text (λ stop. (result.status ≡ status_of_stop stop) ⊎ (result.status ≡ Status.NoMemory)) }
+    ensures silent { WritesNothing result.status → out.new ≡ out.old }
     ensures calm { IfOk text (λ t. length t ≤ K.sure out.old → K.faults out.new ≡ K.faults out.old) }
     ensures calm_stop { OnErr text (K.faults out.new ≡ K.faults out.old) }
+    ensures cid { result.cid ≡ cid_in_line result.status }
 {
     match text {
         Ok(text) => match write_whole(out, text.as_slice()) {
-            Ok(()) => Status::Done,
-            Err(_) => Status::WriteFault,
+            Ok(()) => no_cid(alloc, Status::Done),
+            Err(_) => no_cid(alloc, Status::WriteFault),
         },
-        Err(Stop::ReadFailed) => Status::ReadFault,
-        Err(Stop::NoMemory) => Status::NoMemory,
-        Err(Stop::Refused(refusal)) => Status::Refused(refusal),
+        Err(Stop::ReadFailed) => no_cid(alloc, Status::ReadFault),
+        Err(Stop::NoMemory) => no_cid(alloc, Status::NoMemory),
+        Err(Stop::Refused(refusal)) => refused(alloc, refusal),
     }
 }

@@ -4,7 +4,7 @@ ghost use Rattle.fvm_run.specs.Commands.{command, named};
 /// What the program is asked to do.
 #[derive(Clone, Copy, Debug, PartialEq, Eq)]
 pub enum Command {
-    /// Reads an account list, runs it and prints its report.
+    /// Reads an account list or a CAR file, runs its messages and prints the report.
     Run,
 }
 

@@ -3,8 +3,12 @@ ghost use Rattle.fvm_run.specs.declared.command.Command.{Command};
 ghost use Rattle.fvm_run.specs.declared.refusal.Refusal.{Refusal};
 ghost use Rattle.fvm_run.specs.Answers.{IsAnswer};
 
+use scenario_form::one_scenario;
+
 /// A law, with no code: an input has one answer at most.
 pub fn one_answer()
     ensures { (command : Command) (input : List ℕ) (a b : Result (List ℕ) Refusal) →
         IsAnswer command input a → IsAnswer command input b → a ≡ b }
-{}
+{
+    one_scenario();
+}

@@ -1,26 +1,34 @@
-//! The program `fvm`. Its one command so far is `run` over an account list: it reads the list from standard
-//! input, runs it, and prints the report.
+//! The program `fvm`. Its one command so far is `run`: it reads an account list, or a CAR file with a scenario of
+//! tipsets, from standard input, runs its messages, and prints the report.
 //!
 //! ```text
 //! fvm run < transfers.cbor
+//! fvm run < scenario.car
 //! ```
 //!
 //! Everything that matters stands in [`fvm_main`], whose contract says what the program answers. `main` makes
 //! the sources and sinks over the standard streams, collects the words, and ends with the number of the status.
 #![tactic(auto)]
 
+mod account_list;
 mod answering;
+mod car_text;
 mod command;
+mod ending;
 mod input;
+mod kind_name;
 mod laws;
 mod line;
 mod output;
+mod pieces;
 mod refusal;
 mod running;
+mod scenario_line;
 mod status;
 mod stop;
 #[cfg(test)]
 mod tests;
+mod tipsets;
 
 pub use answering::fvm_main;
 pub use command::{Command, command_of};

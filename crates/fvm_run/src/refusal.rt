@@ -1,19 +1,29 @@
+use car_file::CarFault;
 use dag_cbor::CborFault;
 use fil_message::FormFault;
+use scenario_form::ScenarioFault;
 
-/// Why an input is refused, in the order in which it is judged.
-#[derive(Clone, Copy, Debug, PartialEq, Eq)]
+/// Why an input is refused, in the order in which it is judged. One that begins with the bytes `84 00` is an account
+/// list; every other is a CAR file (the CARv1 specification).
+#[derive(Debug, Drop)]
 pub enum Refusal {
     /// More than 268,435,456 bytes came.
     TooLong,
 
-    /// The input does not begin as an account list does, with the bytes `84 00`. Such an input is a CAR file,
-    /// which this program does not read yet.
-    CarNotBuilt,
+    /// The bytes are no CAR file.
+    Car(CarFault),
 
-    /// The input is not DAG-CBOR.
+    /// The account list is not DAG-CBOR.
     Cbor(CborFault),
 
-    /// The input is DAG-CBOR and no account list.
+    /// The account list is DAG-CBOR of another form.
     Form(FormFault),
+
+    /// There is no scenario under the root of the CAR file.
+    Scenario(ScenarioFault),
+
+    /// The tipset at this place, from 0, is the first that this version does not evaluate: it has more than one block,
+    /// or a message that does more than move a value, or moves it to a receiver for which an account would have to be
+    /// made.
+    NotBuilt(u32),
 }

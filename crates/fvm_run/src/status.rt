@@ -4,7 +4,7 @@ ghost use Rattle.fvm_run.specs.Statuses.{number};
 use crate::refusal::Refusal;
 
 /// How the program ends.
-#[derive(Clone, Copy, Debug, PartialEq, Eq)]
+#[derive(Debug, Drop)]
 pub enum Status {
     /// The whole output was written.
     Done,

@@ -1,16 +1,18 @@
 ghost use Rattle.std.specs.Prelude.{◌≡◌};
 ghost use Rattle.fvm_run.specs.declared.stop.Stop.TheVariants.{ReadFailed, NoMemory as OutOfMemory};
-ghost use Rattle.fvm_run.specs.Stops.{cbor_stop, form_stop};
+ghost use Rattle.fvm_run.specs.Stops.{car_stop, cbor_stop, form_stop, scenario_stop};
 
 use crate::refusal::Refusal;
+use car_file::CarFault;
 use dag_cbor::CborFault;
 use fil_base::{Failure, NoMemory};
 use fil_message::FormFault;
 use outside_io::Failed;
+use scenario_form::ScenarioFault;
 use std::alloc::AllocError;
 
 /// Why a command has no text.
-#[derive(Clone, Copy, Debug, PartialEq, Eq)]
+#[derive(Debug, Drop)]
 pub enum Stop {
     /// The source failed.
     ReadFailed,
@@ -46,6 +48,17 @@ impl From<AllocError> for Stop {
     }
 }
 
+impl From<Failure<CarFault>> for Stop {
+    ghost from_gives = { λ failure stop. stop ≡ car_stop failure };
+
+    fn from(failure: Failure<CarFault>) -> Stop {
+        match failure {
+            Failure::NoMemory => Stop::NoMemory,
+            Failure::Fault(fault) => Stop::Refused(Refusal::Car(fault)),
+        }
+    }
+}
+
 impl From<Failure<CborFault>> for Stop {
     ghost from_gives = { λ failure stop. stop ≡ cbor_stop failure };
 
@@ -64,6 +77,17 @@ impl From<Failure<FormFault>> for Stop {
         match failure {
             Failure::NoMemory => Stop::NoMemory,
             Failure::Fault(fault) => Stop::Refused(Refusal::Form(fault)),
+        }
+    }
+}
+
+impl From<Failure<ScenarioFault>> for Stop {
+    ghost from_gives = { λ failure stop. stop ≡ scenario_stop failure };
+
+    fn from(failure: Failure<ScenarioFault>) -> Stop {
+        match failure {
+            Failure::NoMemory => Stop::NoMemory,
+            Failure::Fault(fault) => Stop::Refused(Refusal::Scenario(fault)),
         }
     }
 }

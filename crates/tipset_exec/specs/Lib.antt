@@ -1,3 +1,13 @@
 pub mod Accounts
 pub mod Ledger
 pub mod Report
+pub mod Balances
+pub mod Calls
+pub mod Messages
+pub mod Tipsets
+pub mod Alone
+pub mod Funds
+pub mod Stands
+pub mod Ends
+pub mod Progress
+pub mod Keys

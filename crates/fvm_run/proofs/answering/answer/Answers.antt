@@ -1,11 +1,30 @@
 use Rattle.std.proofs.Common.{◌≡◌, Some, sym, ap, ◌∙◌, refl}
+use Rattle.std.specs.Io.KnownBytes.{Appends}
+use Rattle.fvm_run.specs.Writing.{TakesPrefix}
 use Rattle.fvm_run.specs.declared.command.Command.{Command}
 use Rattle.fvm_run.specs.declared.command.Command.TheVariants.{Run}
-use Rattle.fvm_run.proofs.Ends.{complete_of, calm_of}
+use Rattle.fvm_run.proofs.Ends.{calm_of, complete_of, refused_of, text_of}
 use Rattle.fvm_run.proofs.answering.answer.Goals as goal
 
 is_run : (command : Command) → command ≡ Run
 is_run Run = refl
+
+pub returns-in-Some-Run-clause-done : goal.returns-in-Some-Run-clause-done
+returns-in-Some-Run-clause-done g c = λ ended.
+    text_of _ Run _ _ c.run_text.result (λ text. Appends (g.K.Sink.taken c.args.out.now) (g.K.Sink.taken c.finish.new.out) text)
+    (sym c.command_of.ensures ∙ (c.in-Some-Run.is ∙ ap Some (is_run c.in-Some-Run.field-0)))
+    c.run_text.ensures.text c.run_text.ensures.at_end (c.finish.ensures.done ended)
+
+pub returns-in-Some-Run-clause-written : goal.returns-in-Some-Run-clause-written
+returns-in-Some-Run-clause-written g c = λ ended.
+    text_of _ Run _ _ c.run_text.result (TakesPrefix (g.K.Sink.taken c.args.out.now) (g.K.Sink.taken c.finish.new.out))
+    (sym c.command_of.ensures ∙ (c.in-Some-Run.is ∙ ap Some (is_run c.in-Some-Run.field-0)))
+    c.run_text.ensures.text c.run_text.ensures.at_end (c.finish.ensures.written ended)
+
+pub returns-in-Some-Run-clause-refused : goal.returns-in-Some-Run-clause-refused
+returns-in-Some-Run-clause-refused g c =
+    refused_of _ Run _ _ _ _ c.run_text.result _ (sym c.command_of.ensures ∙ (c.in-Some-Run.is ∙ ap Some (is_run c.in-Some-Run.field-0)))
+    c.run_text.ensures.stop c.finish.ensures.ok c.finish.ensures.err
 
 pub returns-in-Some-Run-clause-complete : goal.returns-in-Some-Run-clause-complete
 returns-in-Some-Run-clause-complete g c =

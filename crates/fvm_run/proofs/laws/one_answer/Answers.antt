@@ -2,4 +2,5 @@ use Rattle.fvm_run.proofs.OneAnswer.{one_answer_of}
 use Rattle.fvm_run.proofs.laws.one_answer.Goals as goal
 
 pub returns : goal.returns
-returns c = one_answer_of
+returns c =
+    one_answer_of (record { one = c.one_scenario.ensures.one; accepted = c.one_scenario.ensures.accepted; one_fault = c.one_scenario.ensures.one_fault })

@@ -1,0 +1,4 @@
+use Rattle.fvm_run.proofs.pieces.write_name_line.Goals as goal
+
+pub returns : goal.returns
+returns g c = rw (c.as_bytes.ensures.value, c.format.ensures.text) at c.write_pieces.ensures

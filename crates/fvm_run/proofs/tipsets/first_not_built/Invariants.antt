@@ -1,0 +1,10 @@
+use Rattle.std.proofs.Common.{◌≡◌, List, drop}
+use Rattle.fil_message.specs.declared.tipset.Tipset.{Tipset}
+use Rattle.state_model.specs.State.{State}
+use Rattle.fvm_run.specs.Cars.{HaveStates, first_not_built}
+use Rattle.fvm_run.proofs.tipsets.first_not_built.Given as goal
+
+abbrev pub invariant-loop-place : goal.invariant-loop-place
+invariant-loop-place l =
+    (pairs : List (Tipset × State)) → HaveStates l.base l.rules l.tipsets pairs →
+    first_not_built 0 pairs ≡ first_not_built l.place (drop l.place pairs)

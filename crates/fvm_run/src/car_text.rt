@@ -1,0 +1,79 @@
+ghost use Rattle.std.specs.Prelude.{◌≡◌, ◌≤◌, ◌<◌, ◌^◌, All, IfOk, IfErr, vec_len};
+ghost use Rattle.car_file.specs.Car.{IsCar, car as spelled_car};
+ghost use Rattle.car_file.specs.CarFault.{IsCarFault};
+ghost use Rattle.fil_base.specs.CidParts.{CidParts};
+ghost use Rattle.fil_base.specs.Failure.{IfFault};
+ghost use Rattle.fil_message.specs.Tipsets.{IsRules, IsTipset};
+ghost use Rattle.scenario_form.specs.Answer.{IsScenario};
+ghost use Rattle.fvm_run.specs.Answers.{IsRunAnswer, BeginsAsList};
+ghost use Rattle.fvm_run.specs.Cars.{HasScenario, IsLoaded, IsTextOf, IsUnbuiltRefusal};
+ghost use Rattle.fvm_run.specs.Stops.{IfRefused};
+
+use crate::input::INPUT_LIMIT;
+use crate::stop::Stop;
+use crate::tipsets::reports_of;
+use block_base::Base;
+use car_file::{Car, CarFault, CarReader};
+use fil_base::{Bytes, Cid, Failure};
+use report_text::text;
+use scenario_form::{Scenario, read_scenario};
+use std::alloc::Global;
+
+/// The text of the reports on the scenario of the CAR file that the input is.
+pub fn text_of_car(alloc: Global, input: Vec<u8>) -> Result<Bytes, Stop>
+    requires limit { vec_len input ≤ INPUT_LIMIT }
+    requires other { BeginsAsList input.items → ⊥ }
+    ensures text { IfOk result (λ text. IsRunAnswer input.items (Ok text)) }
+    ensures refused { IfErr result (IfRefused (λ refusal. IsRunAnswer input.items (Err refusal))) }
+{
+    let (base, scenario) = scenario_of(alloc, input)?;
+    text_of_scenario(alloc, base, scenario)
+}
+
+/// The text of the reports on a scenario. The blocks and the scenario are let go before it is made.
+fn text_of_scenario(alloc: Global, base: Base, scenario: Scenario) -> Result<Bytes, Stop>
+    requires scenario { (root : CidParts) × IsScenario base root scenario }
+    requires ranges { IsRules scenario.rules × All IsTipset scenario.tipsets }
+    ensures text { IfOk result (IsTextOf base scenario) }
+    ensures refused { IfErr result (IfRefused (IsUnbuiltRefusal base scenario)) }
+{
+    let reports = reports_of(alloc, &base, &scenario)?;
+    drop(scenario);
+    drop(base);
+    Ok(text(alloc, &reports)?)
+}
+
+/// The loaded blocks, and the scenario under the root. The input is let go before the scenario is read.
+fn scenario_of(alloc: Global, input: Vec<u8>) -> Result<(Base, Scenario), Stop>
+    requires limit { vec_len input ≤ INPUT_LIMIT }
+    requires other { BeginsAsList input.items → ⊥ }
+    ensures scenario { IfOk result (λ found. HasScenario input.items found.0 found.1) }
+    ensures ranges { IfOk result (λ found. IsRules found.1.rules × All IsTipset found.1.tipsets) }
+    ensures refused { IfErr result (IfRefused (λ refusal. IsRunAnswer input.items (Err refusal))) }
+{
+    let (root, base) = loaded(alloc, input)?;
+    let scenario = read_scenario(alloc, &root, &base)?;
+    Ok((base, scenario))
+}
+
+/// The root of the CAR file, and its blocks as they are found by their CID.
+fn loaded(alloc: Global, input: Vec<u8>) -> Result<(Cid, Base), Failure<CarFault>>
+    ensures found { IfOk result (λ found. IsLoaded input.items found.0 found.1) }
+    ensures fault { IfErr result (λ failure. IfFault failure (IsCarFault input.items)) }
+{
+    let Car { root, blocks } = car_of(alloc, input)?;
+    let base = Base::of(alloc, blocks)?;
+    Ok((root, base))
+}
+
+/// The CAR file that the input is.
+fn car_of(alloc: Global, input: Vec<u8>) -> Result<Car, Failure<CarFault>>
+    ensures found { IfOk result (λ car.
+        IsCar car.root car.blocks × (input.items ≡ spelled_car car.root car.blocks)) }
+    ensures fault { IfErr result (λ failure. IfFault failure (IsCarFault input.items)) }
+{
+    let mut reader = CarReader::new(alloc);
+    reader.feed(&input)?;
+    drop(input);
+    reader.finish()
+}

@@ -1,0 +1,80 @@
+ghost use Rattle.std.specs.Prelude.{◌≡◌, ◌≤◌, ℕ, All, List, IfOk, IfErr, length, true};
+ghost use Rattle.fil_base.specs.CidParts.{CidParts};
+ghost use Rattle.fil_message.specs.Tipsets.{IsRules, IsTipset};
+ghost use Rattle.fil_message.specs.declared.tipset.Tipset.{Tipset as Tip};
+ghost use Rattle.scenario_form.specs.Answer.{IsScenario};
+ghost use Rattle.state_model.specs.State.{State};
+ghost use Rattle.state_model.specs.StateAt.{state_at};
+ghost use Rattle.tipset_exec.specs.Alone.{IsEvaluable, alone, is_built as is_built_over};
+ghost use Rattle.fvm_run.specs.Cars.{AreBuilt, AreEvaluable, AreReportsOn, HaveStates, IsUnbuiltRefusal, first_not_built as first_among, reports_on};
+ghost use Rattle.fvm_run.specs.Stops.{IfRefused};
+
+use crate::refusal::Refusal;
+use crate::stop::Stop;
+use block_base::Base;
+use fil_base::{Mem, Row};
+use fil_message::{Report, Tipset};
+use gas_prices::Rules;
+use scenario_form::Scenario;
+use std::alloc::Global;
+use tipset_exec::{evaluate_alone, is_built};
+
+/// The reports on the tipsets of a scenario, each alone over the loaded blocks. All of them are judged before the first
+/// one is evaluated.
+pub fn reports_of(alloc: Global, base: &Base, scenario: &Scenario) -> Result<Row<Report>, Stop>
+    requires scenario { (root : CidParts) × IsScenario base.now root scenario.now }
+    requires ranges { IsRules scenario.now.rules × All IsTipset scenario.now.tipsets }
+    ensures reports { IfOk result (AreReportsOn base.now scenario.now) }
+    ensures refused { IfErr result (IfRefused (IsUnbuiltRefusal base.now scenario.now)) }
+{
+    let Scenario { rules, tipsets } = scenario;
+    let tipsets = tipsets.as_slice();
+    if let Some(place) = first_not_built(alloc, base, rules, tipsets)? {
+        return Err(Stop::Refused(Refusal::NotBuilt(place)));
+    }
+    Ok(evaluate_all(alloc, base, rules, tipsets)?)
+}
+
+/// The place of the first tipset that is not evaluated, if there is one.
+fn first_not_built(
+    alloc: Global,
+    base: &Base,
+    rules: &Rules,
+    tipsets: &[Tipset],
+) -> Mem<Option<u32>>
+    requires few { length tipsets.now ≤ 1024 }
+    requires states { AreEvaluable base.now rules.now tipsets.now }
+    ensures { (pairs : List (Tip × State)) → HaveStates base.now rules.now tipsets.now pairs
+        → IfOk result (λ place. place ≡ first_among 0 pairs) }
+{
+    for (place, tipset) in tipsets.iter().enumerate() {
+        if !is_built(alloc, base, rules, tipset)? {
+            return Ok(Some(place as u32));
+        }
+    }
+    Ok(None)
+}
+
+/// The report on each tipset.
+fn evaluate_all(alloc: Global, base: &Base, rules: &Rules, tipsets: &[Tipset]) -> Mem<Row<Report>>
+    requires { AreBuilt base.now rules.now tipsets.now }
+    ensures { (pairs : List (Tip × State)) → HaveStates base.now rules.now tipsets.now pairs
+        → IfOk result (λ reports. reports ≡ reports_on base.now rules.now pairs) }
+{
+    let mut reports = Vec::with_capacity(alloc, tipsets.len())?;
+    for tipset in tipsets {
+        reports.push(evaluate(alloc, base, rules, tipset)?)?;
+    }
+    Ok(Row::of(reports))
+}
+
+/// The report on a tipset. The blocks that it made are let go.
+fn evaluate(alloc: Global, base: &Base, rules: &Rules, tipset: &Tipset) -> Mem<Report>
+    requires { (s : State) × IsEvaluable base.now rules.now tipset.now s × (is_built_over s tipset.now ≡ true) }
+    ensures { (s : State) → state_at base.now tipset.now.root rules.now.codes ≡ Ok s
+        → IfOk result (λ report. report ≡ alone base.now rules.now s tipset.now) }
+{
+    let (report, blocks) = evaluate_alone(alloc, base, rules, tipset)?;
+    drop(blocks);
+    Ok(report)
+}

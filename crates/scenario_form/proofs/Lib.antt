@@ -1,0 +1,15 @@
+mod AnyLoops
+mod Ends
+mod Exits
+mod OneScenario
+mod OpenStates
+mod Parts
+mod PriceReads
+mod Prices
+mod Ranges
+mod Rooms
+mod RuleReads
+mod Runs
+mod Steps
+mod TipsetReads
+mod WithinLimits

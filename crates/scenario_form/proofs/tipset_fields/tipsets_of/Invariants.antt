@@ -1,0 +1,6 @@
+use Rattle.scenario_form.specs.Reading.{tipset_read}
+use Rattle.scenario_form.proofs.Steps.{SoFar}
+use Rattle.scenario_form.proofs.tipset_fields.tipsets_of.Given as goal
+
+abbrev pub invariant-loop-i : goal.invariant-loop-i
+invariant-loop-i l = SoFar tipset_read l.values l.i l.tipsets.items

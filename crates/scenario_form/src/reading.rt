@@ -1,0 +1,119 @@
+ghost use Rattle.std.specs.Prelude.{◌<◌, ◌≤◌, ◌^◌, ◌≡◌, All, IfErr, IfOk, Some, length};
+ghost use Rattle.cid_core.specs.BlockParts.{BlockParts, found};
+ghost use Rattle.dag_cbor.specs.Faults.{IsFault};
+ghost use Rattle.dag_cbor.specs.Plain.{IsPlain};
+ghost use Rattle.dag_cbor.specs.Spelling.{spelled};
+ghost use Rattle.fil_base.specs.Failure.{IfFault};
+ghost use Rattle.fil_message.specs.Tipsets.{IsRules, IsTipset};
+ghost use Rattle.scenario_form.specs.Answer.{HasParts, HasValue, IsScenario, IsScenarioFault, scenario_of};
+ghost use Rattle.scenario_form.specs.Parts.{IsPart, IsRaw};
+ghost use Rattle.scenario_form.specs.declared.fault.ScenarioFault.TheVariants.{Cbor as cbor_fault, Root as root_fault};
+
+use crate::fault::ScenarioFault;
+use crate::judging::judge_rules;
+use crate::raw::RawScenario;
+use crate::scenario::Scenario;
+use crate::scenario_fields::parts_of;
+use crate::states::judge_states;
+use block_base::Base;
+use cid_core::BlockSource;
+use dag_cbor::{CborFault, Value, decode};
+use fil_base::{Cid, Failure};
+use gas_prices::{PriceList, Rules};
+use std::alloc::Global;
+
+/// The scenario under a root: `[1, [prices, [depth, pages], codes], tipsets]`, a tipset being
+/// `[epoch, base fee, state root, blocks]` and a block `[miner, award, messages]`. Its states are loaded and judged.
+pub fn read_scenario(
+    alloc: Global,
+    root: &Cid,
+    base: &Base,
+) -> Result<Scenario, Failure<ScenarioFault>>
+    requires { (block : BlockParts) → found base.now root.now ≡ Some block → length block.bytes < 2 ^ 32 }
+    ensures found { IfOk result (IsScenario base.now root.now) }
+    ensures ranges { IfOk result (λ s. IsRules s.rules × All IsTipset s.tipsets) }
+    ensures fault { IfErr result (λ failure. IfFault failure (IsScenarioFault base.now root.now)) }
+{
+    let raw = parts_under(alloc, root, base)?;
+    let prices = judge_rules(&raw)?;
+    judge_states(alloc, base, &raw.rules.codes, raw.tipsets.as_slice())?;
+    Ok(scenario_of(raw, prices))
+}
+
+/// The scenario of parts that were judged, with its prices.
+fn scenario_of(raw: RawScenario, prices: PriceList) -> Scenario
+    requires prices { prices ≡ raw.rules.prices }
+    requires depth { raw.rules.depth ≤ 64 }
+    requires pages { raw.rules.pages ≤ 512 }
+    ensures { result ≡ scenario_of raw }
+{
+    let RawScenario { rules, tipsets } = raw;
+    Scenario {
+        rules: Rules {
+            prices,
+            depth: rules.depth as u32,
+            pages: rules.pages as u32,
+            codes: rules.codes,
+        },
+        tipsets,
+    }
+}
+
+/// The parts of the scenario under a root, each by itself.
+fn parts_under(
+    alloc: Global,
+    root: &Cid,
+    base: &Base,
+) -> Result<RawScenario, Failure<ScenarioFault>>
+    requires { (block : BlockParts) → found base.now root.now ≡ Some block → length block.bytes < 2 ^ 32 }
+    ensures found { IfOk result (HasParts base.now root.now) }
+    ensures ranges { IfOk result IsRaw }
+    ensures fault { IfErr result (λ failure. IfFault failure (IsScenarioFault base.now root.now)) }
+{
+    let value = value_under(alloc, root, base)?;
+    match parts_of(alloc, &value) {
+        Ok(raw) => Ok(raw),
+        Err(Failure::NoMemory) => Err(Failure::NoMemory),
+        Err(Failure::Fault((place, fault))) => Err(Failure::Fault(ScenarioFault::Form(
+            place, fault,
+        ))),
+    }
+}
+
+/// The value of the block under a root.
+fn value_under(alloc: Global, root: &Cid, base: &Base) -> Result<Value, Failure<ScenarioFault>>
+    requires { (block : BlockParts) → found base.now root.now ≡ Some block → length block.bytes < 2 ^ 32 }
+    ensures found { IfOk result (HasValue base.now root.now) }
+    ensures part { IfOk result IsPart }
+    ensures fault { IfErr result (λ failure. IfFault failure (IsScenarioFault base.now root.now)) }
+{
+    match base.find(root) {
+        Some(block) => value_in(alloc, block.bytes()),
+        None => Err(no_block(alloc, root)),
+    }
+}
+
+/// The value that these bytes of a block spell.
+fn value_in(alloc: Global, bytes: &[u8]) -> Result<Value, Failure<ScenarioFault>>
+    requires { length bytes.now < 2 ^ 32 }
+    ensures found { IfOk result (λ value. IsPlain 128 value × (bytes.now ≡ spelled value)) }
+    ensures part { IfOk result IsPart }
+    ensures fault { IfErr result (λ failure. IfFault failure (λ fault.
+        (cbor : CborFault) × IsFault bytes.now cbor × (fault ≡ cbor_fault cbor))) }
+{
+    match decode(alloc, bytes) {
+        Ok(value) => Ok(value),
+        Err(Failure::NoMemory) => Err(Failure::NoMemory),
+        Err(Failure::Fault(fault)) => Err(Failure::Fault(ScenarioFault::Cbor(fault))),
+    }
+}
+
+/// There is no block under the root.
+fn no_block(alloc: Global, root: &Cid) -> Failure<ScenarioFault>
+    ensures { IfFault result (λ fault. fault ≡ root_fault root.now) }
+{
+    match root.copy(alloc) {
+        Ok(root) => Failure::Fault(ScenarioFault::Root(root)),
+        Err(_) => Failure::NoMemory,
+    }
+}
