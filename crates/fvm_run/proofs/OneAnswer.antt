@@ -26,12 +26,19 @@ use Rattle.scenario_form.specs.declared.fault.ScenarioFault.{ScenarioFault}
 use Rattle.scenario_form.specs.declared.scenario.Scenario.{Scenario}
 use Rattle.state_model.specs.State.{State}
 use Rattle.tipset_exec.specs.Report.{report_of}
+use Rattle.wasm_check.specs.Validity.{IsFirstFault, IsValid}
+use Rattle.wasm_check.specs.declared.fault.CheckFault.{CheckFault}
+use Rattle.wasm_decode.specs.Modules.{SpellsModule}
+use Rattle.wasm_decode.specs.ReadingModule.{decoded}
+use Rattle.wasm_decode.specs.declared.fault.WasmFault.{WasmFault}
+use Rattle.wasm_types.specs.declared.raw_module.RawModule.{RawModule}
 use Rattle.fvm_run.specs.declared.command.Command.{Command}
-use Rattle.fvm_run.specs.declared.command.Command.TheVariants.{Run}
+use Rattle.fvm_run.specs.declared.command.Command.TheVariants.{Run, Check}
 use Rattle.fvm_run.specs.declared.input.TheConstants.{INPUT_LIMIT}
 use Rattle.fvm_run.specs.declared.refusal.Refusal.{Refusal}
 use Rattle.fvm_run.specs.declared.refusal.Refusal.TheVariants as refusal
-use Rattle.fvm_run.specs.Answers.{BeginsAsList, IsAnswer, IsRunAnswer, Spells}
+use Rattle.fvm_run.specs.Answers.{BeginsAsList, IsAnswer, IsAnswerWithin, IsCheckAnswer, IsRunAnswer, Spells}
+use Rattle.fvm_run.specs.Modules.{counts_line, counts_of}
 use Rattle.fvm_run.specs.Cars.{HaveStates, IsLoaded, first_not_built, reports_on}
 use Rattle.fvm_run.proofs.States.{same_states}
 
@@ -126,6 +133,59 @@ one_car_answer laws input a b (inr (r, x, loaded, answers)) (inr (s, y, loaded',
     one_blocks_answer laws x r a b answers
     (subst (λ blocks. IsBlocksAnswer blocks r b) (sym same.1) (subst (λ root. IsBlocksAnswer y root b) (sym same.0) answers'))
 
+-- ---- modules
+
+-- bytes spell one module or have one fault, and a module has one verdict
+pub record ModuleLaws : Type 0 where
+  pub one : (bytes : List ℕ) (a b : RawModule) → SpellsModule bytes a → SpellsModule bytes b → a ≡ b
+  pub read : (bytes : List ℕ) (raw : RawModule) → SpellsModule bytes raw → decoded bytes ≡ Ok raw
+  pub valid : (raw : RawModule) (fault : CheckFault) → IsValid raw → IsFirstFault raw fault → ⊥
+  pub one_fault : (raw : RawModule) (f g : CheckFault) → IsFirstFault raw f → IsFirstFault raw g → f ≡ g
+
+-- the answer to a module: the line on it, or its first fault
+abbrev IsModuleAnswer : RawModule → Answer → Type 0
+IsModuleAnswer raw a =
+    (IsValid raw × (a ≡ Ok (counts_line (counts_of raw))))
+    ⊎ ((fault : CheckFault) × IsFirstFault raw fault × (a ≡ Err (refusal.Check fault)))
+
+one_module_answer : ModuleLaws → (raw : RawModule) (a b : Answer) → IsModuleAnswer raw a → IsModuleAnswer raw b → a ≡ b
+one_module_answer laws raw a b (inl (valid, at)) (inl (valid', at')) = at ∙ sym at'
+one_module_answer laws raw a b (inl (valid, at)) (inr (f, is, at')) = absurd (laws.valid raw f valid is)
+one_module_answer laws raw a b (inr (f, is, at)) (inl (valid, at')) = absurd (laws.valid raw f valid is)
+one_module_answer laws raw a b (inr (f, is, at)) (inr (g, is', at')) =
+    at ∙ (ap (λ fault. Err (refusal.Check fault)) (laws.one_fault raw f g is is') ∙ sym at')
+
+-- the answer to bytes: their fault, or that to the module that they spell
+abbrev IsBytesAnswer : List ℕ → Answer → Type 0
+IsBytesAnswer input a =
+    ((fault : WasmFault) × (decoded input ≡ Err fault) × (a ≡ Err (refusal.Wasm fault)))
+    ⊎ ((raw : RawModule) × SpellsModule input raw × IsModuleAnswer raw a)
+
+one_wasm_fault : (read : Result RawModule WasmFault) (f g : WasmFault) → read ≡ Err f → read ≡ Err g → f ≡ g
+one_wasm_fault read f g is is' = cc
+
+not_both : (read : Result RawModule WasmFault) (raw : RawModule) (f : WasmFault) → read ≡ Ok raw → read ≡ Err f → ⊥
+not_both read raw f is is' = cc
+
+one_bytes_answer : ModuleLaws → (input : List ℕ) (a b : Answer) → IsBytesAnswer input a → IsBytesAnswer input b → a ≡ b
+one_bytes_answer laws input a b (inl (f, is, at)) (inl (g, is', at')) =
+    at ∙ (ap (λ fault. Err (refusal.Wasm fault)) (one_wasm_fault (decoded input) f g is is') ∙ sym at')
+one_bytes_answer laws input a b (inl (f, is, at)) (inr (raw, spells, answers)) = absurd (not_both (decoded input) raw f (laws.read input raw spells) is)
+one_bytes_answer laws input a b (inr (raw, spells, answers)) (inl (f, is, at)) = absurd (not_both (decoded input) raw f (laws.read input raw spells) is)
+one_bytes_answer laws input a b (inr (x, spells, answers)) (inr (y, spells', answers')) =
+    one_module_answer laws x a b answers (subst (λ raw. IsModuleAnswer raw b) (sym (laws.one input x y spells spells')) answers')
+
+module_or_fault : (input : List ℕ) (a : Answer) → IsCheckAnswer input a → IsBytesAnswer input a
+module_or_fault input (Ok text) (raw, spells, valid, is) = inr (raw, spells, inl (valid, ap Ok is))
+module_or_fault input (Err refusal.TooLong) answers = absurd answers
+module_or_fault input (Err (refusal.Car fault)) answers = absurd answers
+module_or_fault input (Err (refusal.Cbor fault)) answers = absurd answers
+module_or_fault input (Err (refusal.Form fault)) answers = absurd answers
+module_or_fault input (Err (refusal.Scenario fault)) answers = absurd answers
+module_or_fault input (Err (refusal.NotBuilt n)) answers = absurd answers
+module_or_fault input (Err (refusal.Wasm fault)) is = inl (fault, is, refl)
+module_or_fault input (Err (refusal.Check fault)) (raw, spells, is) = inr (raw, spells, inr (fault, is, refl))
+
 -- ---- all inputs
 
 -- an input that is not too long is an account list or a CAR file, and has the answer to it
@@ -139,6 +199,8 @@ list_or_car input (Err (refusal.Car fault)) (other, is) = inr (other, inl (fault
 list_or_car input (Err (refusal.Cbor fault)) (begins, is) = inl (begins, inl (fault, is, refl))
 list_or_car input (Err (refusal.Form fault)) (begins, value, spells, is) = inl (begins, inr (value, spells, sym (ap list_answer is)))
 list_or_car input (Err (refusal.Scenario fault)) (other, (root, blocks, loaded, is)) = inr (other, inr (root, blocks, loaded, inl (fault, is, refl)))
+list_or_car input (Err (refusal.Wasm fault)) answers = absurd answers
+list_or_car input (Err (refusal.Check fault)) answers = absurd answers
 list_or_car input (Err (refusal.NotBuilt n)) (other, (root, blocks, loaded, s, read, (pairs, have, first))) =
     inr (other, inr (root, blocks, loaded, inr (s, read, pairs, have, sym (ap (tipsets_answer blocks s.rules pairs) first))))
 
@@ -155,25 +217,34 @@ one_run_answer laws input a b answers other =
       ]
     ]
 
--- what is not too long has an answer of its own, and what is too long has none but that
-within_limit : (input : List ℕ) (a : Answer) → IsAnswer Run input a → ((a ≡ Err refusal.TooLong) × (INPUT_LIMIT < length input)) ⊎ ((length input ≤ INPUT_LIMIT) × IsRunAnswer input a)
-within_limit input (Ok t) answers = inr answers
-within_limit input (Err refusal.TooLong) answers = inl (refl, answers)
-within_limit input (Err (refusal.Car fault)) answers = inr answers
-within_limit input (Err (refusal.Cbor fault)) answers = inr answers
-within_limit input (Err (refusal.Form fault)) answers = inr answers
-within_limit input (Err (refusal.Scenario fault)) answers = inr answers
-within_limit input (Err (refusal.NotBuilt n)) answers = inr answers
+-- a command has one answer to an input that is not too long
+one_answer_within : ScenarioLaws → ModuleLaws → (asked : Command) (input : List ℕ) (a b : Answer) → IsAnswerWithin asked input a → IsAnswerWithin asked input b → a ≡ b
+one_answer_within scenarios modules Run input a b answers other = one_run_answer scenarios input a b answers other
+one_answer_within scenarios modules Check input a b answers other =
+    one_bytes_answer modules input a b (module_or_fault input a answers) (module_or_fault input b other)
 
-pub one_answer_of : ScenarioLaws → (command : Command) (input : List ℕ) (a b : Answer) → IsAnswer command input a → IsAnswer command input b → a ≡ b
-one_answer_of laws Run input a b answers other =
-    elim (within_limit input a answers) [
-      | inl long ↦ elim (within_limit input b other) [
+-- what is not too long has an answer of its own, and what is too long has none but that
+within_limit : (asked : Command) (input : List ℕ) (a : Answer) → IsAnswer asked input a →
+    ((a ≡ Err refusal.TooLong) × (INPUT_LIMIT < length input)) ⊎ ((length input ≤ INPUT_LIMIT) × IsAnswerWithin asked input a)
+within_limit asked input (Ok t) answers = inr answers
+within_limit asked input (Err refusal.TooLong) answers = inl (refl, answers)
+within_limit asked input (Err (refusal.Car fault)) answers = inr answers
+within_limit asked input (Err (refusal.Cbor fault)) answers = inr answers
+within_limit asked input (Err (refusal.Form fault)) answers = inr answers
+within_limit asked input (Err (refusal.Scenario fault)) answers = inr answers
+within_limit asked input (Err (refusal.NotBuilt n)) answers = inr answers
+within_limit asked input (Err (refusal.Wasm fault)) answers = inr answers
+within_limit asked input (Err (refusal.Check fault)) answers = inr answers
+
+pub one_answer_of : ScenarioLaws → ModuleLaws → (asked : Command) (input : List ℕ) (a b : Answer) → IsAnswer asked input a → IsAnswer asked input b → a ≡ b
+one_answer_of scenarios modules asked input a b answers other =
+    elim (within_limit asked input a answers) [
+      | inl long ↦ elim (within_limit asked input b other) [
         | inl long' ↦ long.0 ∙ sym long'.0
         | inr short ↦ absurd (omega (arith, long.1, short.0))
       ]
-      | inr short ↦ elim (within_limit input b other) [
+      | inr short ↦ elim (within_limit asked input b other) [
         | inl long ↦ absurd (omega (arith, long.1, short.0))
-        | inr short' ↦ one_run_answer laws input a b short.1 short'.1
+        | inr short' ↦ one_answer_within scenarios modules asked input a b short.1 short'.1
       ]
     ]

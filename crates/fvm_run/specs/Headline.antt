@@ -3,7 +3,7 @@ use Rattle.std.specs.Prelude.{◌≡◌, ℕ, List, Option, Some, None, Result, 
 use Rattle.std.specs.Io.KnownBytes.{Appends, IsAtEnd}
 use Rattle.outside_io.specs.Causes.{Rose}
 use Rattle.fvm_run.specs.declared.command.Command.{Command}
-use Rattle.fvm_run.specs.declared.command.Command.TheVariants.{Run}
+use Rattle.fvm_run.specs.declared.command.Command.TheVariants.{Run, Check}
 use Rattle.fvm_run.specs.declared.refusal.Refusal.{Refusal}
 use Rattle.fvm_run.specs.declared.status.Status.{Status}
 use Rattle.fvm_run.specs.declared.status.UsageFault.TheVariants.{Words}
@@ -16,6 +16,7 @@ use Rattle.fvm_run.specs.Writing.{TakesPrefix}
 -- a command that reads has read its source to the end
 abbrev pub HasReadAll : Command → Option (List ℕ) → Type 0
 HasReadAll Run left = IsAtEnd left
+HasReadAll Check left = IsAtEnd left
 
 -- there is a command, its answer to what the source had left is a text, the source was read to its end, and
 -- of the text P holds

@@ -1,5 +1,6 @@
 pub mod Commands
 pub mod Cars
+pub mod Modules
 pub mod Answers
 pub mod Stops
 pub mod Statuses

@@ -21,8 +21,13 @@ use Rattle.hamt_map.specs.declared.state_fault.StateFault.TheVariants as state
 use Rattle.scenario_form.specs.declared.fault.ScenarioFault.{ScenarioFault}
 use Rattle.scenario_form.specs.declared.fault.ScenarioFault.TheVariants as scenario
 use Rattle.scenario_form.specs.declared.place.Place.{Place}
+use Rattle.wasm_check.specs.declared.fault.CheckFault.{CheckFault}
+use Rattle.wasm_check.specs.declared.fault.CheckKind.{CheckKind}
+use Rattle.wasm_check.specs.declared.fault.CheckKind.TheVariants as check
+use Rattle.wasm_decode.specs.declared.fault.WasmKind.{WasmKind}
+use Rattle.wasm_decode.specs.declared.fault.WasmKind.TheVariants as wasm
 use Rattle.fvm_run.specs.declared.refusal.Refusal.{Refusal}
-use Rattle.fvm_run.specs.declared.refusal.Refusal.TheVariants.{TooLong, Car, Cbor, Form, Scenario, NotBuilt}
+use Rattle.fvm_run.specs.declared.refusal.Refusal.TheVariants.{TooLong, Car, Cbor, Form, Scenario, NotBuilt, Wasm, Check}
 use Rattle.fvm_run.specs.declared.status.Status.{Status}
 use Rattle.fvm_run.specs.declared.status.Status.TheVariants.{Done, Usage, Refused, ReadFault, WriteFault, NoMemory}
 
@@ -65,6 +70,32 @@ state_kind (state.Form cid) = codes "Form"
 state_kind (state.NotCanonical cid canonical) = codes "NotCanonical"
 state_kind (state.Version version) = codes "Version"
 state_kind (state.Actor id) = codes "Actor"
+
+abbrev pub wasm_kind : WasmKind → List ℕ
+wasm_kind wasm.Limit = codes "Limit"
+wasm_kind wasm.Float = codes "Float"
+wasm_kind wasm.Start = codes "Start"
+wasm_kind wasm.Unsupported = codes "Unsupported"
+wasm_kind wasm.UnknownImport = codes "UnknownImport"
+wasm_kind wasm.Form = codes "Form"
+
+abbrev pub check_kind : CheckKind → List ℕ
+check_kind check.TypeMismatch = codes "TypeMismatch"
+check_kind check.Underflow = codes "Underflow"
+check_kind check.Height = codes "Height"
+check_kind check.Label = codes "Label"
+check_kind check.Local = codes "Local"
+check_kind check.Global = codes "Global"
+check_kind check.Function = codes "Function"
+check_kind check.TypeIndex = codes "TypeIndex"
+check_kind check.NoMemory0 = codes "NoMemory0"
+check_kind check.NoTable = codes "NoTable"
+check_kind check.Align = codes "Align"
+check_kind check.Immutable = codes "Immutable"
+check_kind check.Nesting = codes "Nesting"
+check_kind check.Init = codes "Init"
+check_kind check.Export = codes "Export"
+check_kind check.Entry = codes "Entry"
 
 -- ---- lines
 
@@ -114,6 +145,12 @@ scenario_line (scenario.State n fault) =
 scenario_line (scenario.Next n) = number_line (codes "refused scenario Next ") n
 scenario_line (scenario.Total n) = number_line (codes "refused scenario Total ") n
 
+-- a fault of a module: what is wrong, the function, and the instruction in it
+abbrev pub check_line : CheckFault → List ℕ
+check_line fault =
+    codes "refused check " ++ (check_kind fault.kind ++ (codes " " ++ (decimal fault.function
+    ++ (codes " " ++ (decimal fault.position ++ codes "\n")))))
+
 abbrev pub refusal_line : Refusal → List ℕ
 refusal_line TooLong = codes "refused input TooLong\n"
 refusal_line (Car fault) = name_line (codes "refused car ") (car_kind fault.kind) fault.at
@@ -121,6 +158,8 @@ refusal_line (Cbor fault) = name_line (codes "refused cbor ") (cbor_kind fault.k
 refusal_line (Form fault) = form_line fault
 refusal_line (Scenario fault) = scenario_line fault
 refusal_line (NotBuilt n) = number_line (codes "refused NotBuilt ") n
+refusal_line (Wasm fault) = name_line (codes "refused wasm ") (wasm_kind fault.kind) fault.at
+refusal_line (Check fault) = check_line fault
 
 abbrev pub line : Status → List ℕ
 line Done = []

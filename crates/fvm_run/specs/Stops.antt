@@ -6,11 +6,13 @@ use Rattle.car_file.specs.declared.fault.CarFault.{CarFault}
 use Rattle.dag_cbor.specs.declared.fault.CborFault.{CborFault}
 use Rattle.fil_message.specs.declared.form_fault.FormFault.{FormFault}
 use Rattle.scenario_form.specs.declared.fault.ScenarioFault.{ScenarioFault}
+use Rattle.wasm_check.specs.declared.fault.CheckFault.{CheckFault}
+use Rattle.wasm_decode.specs.declared.fault.WasmFault.{WasmFault}
 use Rattle.std.specs.Io.KnownBytes.{IsAtEnd}
 use Rattle.outside_io.specs.Causes.{Rose}
 use Rattle.fvm_run.specs.declared.command.Command.{Command}
 use Rattle.fvm_run.specs.declared.refusal.Refusal.{Refusal}
-use Rattle.fvm_run.specs.declared.refusal.Refusal.TheVariants.{TooLong, Car, Cbor, Form, Scenario}
+use Rattle.fvm_run.specs.declared.refusal.Refusal.TheVariants.{TooLong, Car, Cbor, Form, Scenario, Wasm, Check}
 use Rattle.fvm_run.specs.declared.status.Status.{Status}
 use Rattle.fvm_run.specs.declared.status.Status.TheVariants as status
 use Rattle.fvm_run.specs.declared.stop.Stop.{Stop}
@@ -33,6 +35,14 @@ form_stop (failure.Fault fault) = Refused (Form fault)
 abbrev pub scenario_stop : Failure ScenarioFault → Stop
 scenario_stop failure.NoMemory = NoMemory
 scenario_stop (failure.Fault fault) = Refused (Scenario fault)
+
+abbrev pub wasm_stop : Failure WasmFault → Stop
+wasm_stop failure.NoMemory = NoMemory
+wasm_stop (failure.Fault fault) = Refused (Wasm fault)
+
+abbrev pub check_stop : Failure CheckFault → Stop
+check_stop failure.NoMemory = NoMemory
+check_stop (failure.Fault fault) = Refused (Check fault)
 
 -- the source was read to its end before a refusal, but for that of an input that is too long
 abbrev pub IsReadBefore : Refusal → Option (List ℕ) → Type 0

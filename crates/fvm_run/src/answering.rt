@@ -11,6 +11,7 @@ use crate::command::{Command, command_of};
 use crate::ending::{Ending, no_cid, refused};
 use crate::line::say;
 use crate::output::write_whole;
+use crate::plain::run_plain;
 use crate::running::run_text;
 use crate::status::{Status, UsageFault};
 use crate::stop::Stop;
@@ -111,6 +112,7 @@ fn answer<S: Source, K: Sink>(
     match command_of(words) {
         None => no_cid(alloc, Status::Usage(UsageFault::Words)),
         Some(Command::Run) => finish(alloc, run_text(alloc, source), out),
+        Some(Command::Check) => { no_cid(alloc, run_plain(alloc, &Command::Check, source, out)) }
     }
 }
 
@@ -129,7 +131,7 @@ fn is_done(status: &Status) -> bool
 }
 
 /// Writes the text, or says why there is none.
-fn finish<K: Sink>(alloc: Global, text: Result<Bytes, Stop>, out: &mut K) -> Ending
+pub fn finish<K: Sink>(alloc: Global, text: Result<Bytes, Stop>, out: &mut K) -> Ending
     ensures done { result.status ≡ Status.Done →
         IsOkAnd text (λ t. Appends (K.taken out.old) (K.taken out.new) t) }
     ensures written { result.status ≡ Status.WriteFault →

@@ -6,6 +6,9 @@ ghost use Rattle.fvm_run.specs.Commands.{command, named};
 pub enum Command {
     /// Reads an account list or a CAR file, runs its messages and prints the report.
     Run,
+
+    /// Reads a Wasm module and prints how much there is of it, if it is valid.
+    Check,
 }
 
 /// The command that the words name. It takes no memory.
@@ -23,6 +26,8 @@ fn command_named(word: &str) -> Option<Command>
 {
     if word == "run" {
         Some(Command::Run)
+    } else if word == "check" {
+        Some(Command::Check)
     } else {
         None
     }

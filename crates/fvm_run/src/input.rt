@@ -1,6 +1,6 @@
 ghost use Rattle.std.specs.Prelude.{◌≤◌, IfOk, IfErr, OnOk, vec_len};
 ghost use Rattle.std.specs.Io.KnownBytes.{IsAtEnd};
-ghost use Rattle.fvm_run.specs.declared.command.Command.TheVariants.{Run};
+ghost use Rattle.fvm_run.specs.declared.command.Command.{Command};
 ghost use Rattle.fvm_run.specs.Answers.{Had};
 ghost use Rattle.fvm_run.specs.Stops.{HasCauseOfStop};
 
@@ -19,7 +19,7 @@ pub fn read_to_end<S: Source>(alloc: Global, source: &mut S) -> Result<Vec<u8>, 
     ensures whole { IfOk result (λ bytes. Had (S.left source.old) bytes.items) }
     ensures at_end { OnOk result (IsAtEnd (S.left source.new)) }
     ensures limit { IfOk result (λ bytes. vec_len bytes ≤ INPUT_LIMIT) }
-    ensures stop { IfErr result (HasCauseOfStop Run (S.left source.old) (S.left source.new)
+    ensures stop { (command : Command) → IfErr result (HasCauseOfStop command (S.left source.old) (S.left source.new)
         (S.faults source.old) (S.faults source.new)) }
     ensures later { S.faults source.old ≤ S.faults source.new }
 {

@@ -1,10 +1,12 @@
 ghost use Rattle.std.specs.Prelude.{◌≡◌};
-ghost use Rattle.fvm_run.specs.Lines.{car_kind, cbor_kind, field_kind, state_kind};
+ghost use Rattle.fvm_run.specs.Lines.{car_kind, cbor_kind, check_kind, field_kind, state_kind, wasm_kind};
 
 use car_file::CarKind;
 use cbor_fields::FieldKind;
 use dag_cbor::CborKind;
 use hamt_map::StateFault;
+use wasm_check::CheckKind;
+use wasm_decode::WasmKind;
 
 pub fn car_kind_name(kind: CarKind) -> &'static [u8]
     ensures { result.now ≡ car_kind kind }
@@ -61,5 +63,41 @@ pub fn state_kind_name(fault: &StateFault) -> &'static [u8]
         StateFault::NotCanonical(_, _) => b"NotCanonical",
         StateFault::Version(_) => b"Version",
         StateFault::Actor(_) => b"Actor",
+    }
+}
+
+pub fn wasm_kind_name(kind: WasmKind) -> &'static [u8]
+    ensures { result.now ≡ wasm_kind kind }
+{
+    match kind {
+        WasmKind::Limit => b"Limit",
+        WasmKind::Float => b"Float",
+        WasmKind::Start => b"Start",
+        WasmKind::Unsupported => b"Unsupported",
+        WasmKind::UnknownImport => b"UnknownImport",
+        WasmKind::Form => b"Form",
+    }
+}
+
+pub fn check_kind_name(kind: CheckKind) -> &'static [u8]
+    ensures { result.now ≡ check_kind kind }
+{
+    match kind {
+        CheckKind::TypeMismatch => b"TypeMismatch",
+        CheckKind::Underflow => b"Underflow",
+        CheckKind::Height => b"Height",
+        CheckKind::Label => b"Label",
+        CheckKind::Local => b"Local",
+        CheckKind::Global => b"Global",
+        CheckKind::Function => b"Function",
+        CheckKind::TypeIndex => b"TypeIndex",
+        CheckKind::NoMemory0 => b"NoMemory0",
+        CheckKind::NoTable => b"NoTable",
+        CheckKind::Align => b"Align",
+        CheckKind::Immutable => b"Immutable",
+        CheckKind::Nesting => b"Nesting",
+        CheckKind::Init => b"Init",
+        CheckKind::Export => b"Export",
+        CheckKind::Entry => b"Entry",
     }
 }

@@ -1,16 +1,20 @@
 ghost use Rattle.std.specs.Prelude.{◌≡◌};
 ghost use Rattle.fvm_run.specs.Writing.{Wrote};
 ghost use Rattle.fvm_run.specs.Headline.{Says};
-ghost use Rattle.fvm_run.specs.Lines.{cid_in_line, cid_in_refusal, form_line, line, refusal_line};
+ghost use Rattle.fvm_run.specs.Lines.{check_line, cid_in_line, cid_in_refusal, form_line, line, refusal_line};
 
-use crate::kind_name::{car_kind_name, cbor_kind_name, field_kind_name};
+use crate::kind_name::{
+    car_kind_name, cbor_kind_name, check_kind_name, field_kind_name, wasm_kind_name,
+};
 use crate::output::write_whole;
-use crate::pieces::{write_name_line, write_number_line};
+use crate::pieces::{write_name_line, write_number_line, write_pieces};
 use crate::refusal::Refusal;
 use crate::scenario_line::write_scenario_fault;
 use crate::status::Status;
 use fil_message::FormFault;
+use itoa::Buffer;
 use outside_io::{Failed, Sink};
+use wasm_check::CheckFault;
 
 const USAGE: &[u8] =
     b"usage: run [--workers W] [--engines E] | schedule [--engines E] [--seed S] | check | pack | generate S N | load S N\n";
@@ -57,6 +61,15 @@ fn write_refusal<E: Sink>(sink: &mut E, refusal: &Refusal, cid: &[u8]) -> Result
         Refusal::NotBuilt(tipset) => {
             write_number_line(sink, b"refused NotBuilt ", u64::from(*tipset))
         }
+        Refusal::Wasm(fault) => {
+            write_name_line(
+                sink,
+                b"refused wasm ",
+                wasm_kind_name(fault.kind),
+                u64::from(fault.at),
+            )
+        }
+        Refusal::Check(fault) => write_check_fault(sink, *fault),
     }
 }
 
@@ -74,4 +87,22 @@ fn write_form_fault<E: Sink>(sink: &mut E, fault: FormFault) -> Result<(), Faile
         FormFault::Order(at) => write_number_line(sink, b"refused form Order ", u64::from(at)),
         FormFault::Total => write_whole(sink, b"refused form Total\n"),
     }
+}
+
+fn write_check_fault<E: Sink>(sink: &mut E, fault: CheckFault) -> Result<(), Failed>
+    ensures { Wrote (E.taken sink.old) (E.taken sink.new)
+        (E.faults sink.old) (E.faults sink.new) (check_line fault) result }
+{
+    let mut function = Buffer::new();
+    let mut position = Buffer::new();
+    let pieces = [
+        b"refused check ".as_slice(),
+        check_kind_name(fault.kind),
+        b" ",
+        function.format(fault.function).as_bytes(),
+        b" ",
+        position.format(fault.position).as_bytes(),
+        b"\n",
+    ];
+    write_pieces(sink, &pieces)
 }

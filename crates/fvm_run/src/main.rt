@@ -1,9 +1,11 @@
-//! The program `fvm`. Its one command so far is `run`: it reads an account list, or a CAR file with a scenario of
-//! tipsets, from standard input, runs its messages, and prints the report.
+//! The program `fvm`. Its command `run` reads an account list, or a CAR file with a scenario of tipsets, from standard
+//! input, runs its messages, and prints the report. Its command `check` reads a Wasm module, and prints how much there is
+//! of it if it is valid.
 //!
 //! ```text
 //! fvm run < transfers.cbor
 //! fvm run < scenario.car
+//! fvm check < module.wasm
 //! ```
 //!
 //! Everything that matters stands in [`fvm_main`], whose contract says what the program answers. `main` makes
@@ -21,6 +23,7 @@ mod laws;
 mod line;
 mod output;
 mod pieces;
+mod plain;
 mod refusal;
 mod running;
 mod scenario_line;
@@ -29,11 +32,13 @@ mod stop;
 #[cfg(test)]
 mod tests;
 mod tipsets;
+mod wasm_module;
 
 pub use answering::fvm_main;
 pub use command::{Command, command_of};
 pub use laws::one_answer;
 use outside_io::{NoGate, ReadSource, WriteSink};
+pub use plain::run_plain;
 pub use refusal::Refusal;
 pub use status::{Status, UsageFault, status_number};
 use std::alloc::AllocError;

@@ -1,6 +1,6 @@
 ghost use Rattle.std.specs.Prelude.{◌≡◌};
 ghost use Rattle.fvm_run.specs.declared.stop.Stop.TheVariants.{ReadFailed, NoMemory as OutOfMemory};
-ghost use Rattle.fvm_run.specs.Stops.{car_stop, cbor_stop, form_stop, scenario_stop};
+ghost use Rattle.fvm_run.specs.Stops.{car_stop, cbor_stop, check_stop, form_stop, scenario_stop, wasm_stop};
 
 use crate::refusal::Refusal;
 use car_file::CarFault;
@@ -10,6 +10,8 @@ use fil_message::FormFault;
 use outside_io::Failed;
 use scenario_form::ScenarioFault;
 use std::alloc::AllocError;
+use wasm_check::CheckFault;
+use wasm_decode::WasmFault;
 
 /// Why a command has no text.
 #[derive(Debug, Drop)]
@@ -88,6 +90,28 @@ impl From<Failure<ScenarioFault>> for Stop {
         match failure {
             Failure::NoMemory => Stop::NoMemory,
             Failure::Fault(fault) => Stop::Refused(Refusal::Scenario(fault)),
+        }
+    }
+}
+
+impl From<Failure<WasmFault>> for Stop {
+    ghost from_gives = { λ failure stop. stop ≡ wasm_stop failure };
+
+    fn from(failure: Failure<WasmFault>) -> Stop {
+        match failure {
+            Failure::NoMemory => Stop::NoMemory,
+            Failure::Fault(fault) => Stop::Refused(Refusal::Wasm(fault)),
+        }
+    }
+}
+
+impl From<Failure<CheckFault>> for Stop {
+    ghost from_gives = { λ failure stop. stop ≡ check_stop failure };
+
+    fn from(failure: Failure<CheckFault>) -> Stop {
+        match failure {
+            Failure::NoMemory => Stop::NoMemory,
+            Failure::Fault(fault) => Stop::Refused(Refusal::Check(fault)),
         }
     }
 }

@@ -12,6 +12,7 @@ use std::thread::Threads;
 
 mod cars;
 mod lines;
+mod modules;
 
 /// Two accounts, and three transfers of 3 from the one to the other.
 const TRANSFERS: &[u8] =
@@ -70,7 +71,19 @@ fn ends<R: Threads + Wait + Sync + AllocGlobal>(
     report: &[u8],
     line: &[u8],
 ) -> Result<bool, Fail> {
-    let words = words_of(rt.alloc(), &["run"])?;
+    command_ends(rt, "run", input, status, report, line)
+}
+
+/// The same of any command.
+fn command_ends<R: Threads + Wait + Sync + AllocGlobal>(
+    rt: &R,
+    word: &str,
+    input: &[u8],
+    status: u8,
+    report: &[u8],
+    line: &[u8],
+) -> Result<bool, Fail> {
+    let words = words_of(rt.alloc(), &[word])?;
     let mut source = source(rt.alloc(), input, 7, &[])?;
     let mut out = sink(rt.alloc(), 5, &[])?;
     let mut faults = sink(rt.alloc(), 5, &[])?;
@@ -122,9 +135,10 @@ fn a_root_that_has_no_block_is_named(rt: HostRuntime) -> Result<(), Fail> {
 
 #[test]
 fn faulty_words_read_nothing(rt: HostRuntime) -> Result<(), Fail> {
-    let table: [&[&str]; 5] = [
+    let table: [&[&str]; 6] = [
         &[],
         &["walk"],
+        &["check", "check"],
         &["run", "--workers", "0"],
         &["run", "run"],
         &[""],

@@ -1,0 +1,12 @@
+pub mod Code
+pub mod Effects
+pub mod Judging
+pub mod Machine
+pub mod Modules
+pub mod Operands
+pub mod Placing
+pub mod Readable
+pub mod Results
+pub mod TypedBody
+pub mod Typing
+pub mod Validity
