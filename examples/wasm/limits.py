@@ -1,5 +1,5 @@
 #!/usr/bin/env python3
-"""Asks `fvm check` of modules at each limit, and one past it, and of one module for each kind of fault of a valid reading.
+"""Asks `fvm check` of modules at each limit and one past it, and of one module for each kind of fault that `check` gives.
 
     examples/wasm/limits.py [PROGRAM]       ./fvm where absent
 
@@ -44,8 +44,8 @@ class Module:
     """The smallest module with an entry, some of whose sections are exchanged for others."""
 
     def __init__(self, types=(b"\x60\x01\x7f\x01\x7f",), functions=(0,), tables=(), memories=(b"\x00\x01",), globals_=(),
-                 exports=(), elements=(), bodies=None, segments=(), custom=0):
-        named = [sized(b"memory") + b"\x02\x00", sized(b"invoke") + b"\x00\x00"]
+                 exports=(), elements=(), bodies=None, segments=(), custom=0, entry=b"\0"):
+        named = [sized(b"memory") + b"\2\0", sized(b"invoke") + b"\0" + entry]
         bodies = [body(b"\x41\x00")] * len(functions) if bodies is None else bodies
         self.counts = (len(types), 0, len(functions))
         parts = [(1, types), (3, [number(index) for index in functions]), (4, tables), (5, memories), (6, globals_),
@@ -114,6 +114,10 @@ def cases():
     for count in 1_024, 1_025:
         line = None if count == 1_024 else "refused check Nesting 0 1024"
         yield in_body(f"open blocks: {count}", b"\x02\x40" * count + END * count + b"\x41\0", line)
+    made = Module(entry=b"\x80\0")
+    yield "an index spelled in two bytes", made, made.fine()
+    made = Module(bodies=[body(b"\x43\0\0\x80\x3f\x1a\x41\0")])
+    yield "a number of floating point", made, f"refused wasm Float {made.count_at[10] + 1 + 1 + 1}"
     yield in_body("an if that would be too deep", b"\x02\x40" * 1_024 + b"\x04\x40" + END * 1_025, "refused check Nesting 0 1024")
     yield in_body("a label too many", b"\x41\0\x0c\1", "refused check Label 0 1")
     yield in_body("a local too many", b"\x20\1", "refused check Local 0 0")
