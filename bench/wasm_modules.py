@@ -7,10 +7,13 @@ import sys
 import time
 
 HERE = os.path.dirname(os.path.abspath(__file__))
+EXAMPLES = os.path.join(HERE, "..", "examples", "wasm")
+sys.path.insert(0, EXAMPLES)
+from limits import MOST_MODULE_BYTES, number
+
 PROGRAM = os.path.join(HERE, "..", "crates", "fvm_run", "out", "fvm_run")
-REAL = os.path.join(HERE, "..", "examples", "wasm", "rustc.wasm")
+REAL = os.path.join(EXAMPLES, "rustc.wasm")
 OUT = os.path.join(HERE, "out")
-MOST = 4_194_304
 FUNCTIONS, EXPORTS, CODE = 3, 7, 10
 PEAK = """
 import resource, subprocess, sys
@@ -18,15 +21,6 @@ with open(sys.argv[2], "rb") as source:
     subprocess.run([sys.argv[1], "check"], stdin=source, stdout=subprocess.DEVNULL, stderr=subprocess.DEVNULL)
 print(resource.getrusage(resource.RUSAGE_CHILDREN).ru_maxrss * 1024)
 """
-
-
-def number(value):
-    """A number as LEB128 without a sign."""
-    spelled = b""
-    while value >= 128:
-        spelled += bytes([128 + value % 128])
-        value //= 128
-    return spelled + bytes([value])
 
 
 def read_number(data, at):
@@ -59,7 +53,7 @@ def repeated(module):
     count, types = read_number(contents[FUNCTIONS], 0)
     _, bodies = read_number(contents[CODE], 0)
     types, bodies = contents[FUNCTIONS][types:], contents[CODE][bodies:]
-    times = (MOST - len(module)) // (len(types) + len(bodies))
+    times = (MOST_MODULE_BYTES - len(module)) // (len(types) + len(bodies))
 
     def many(kind, content):
         if kind == FUNCTIONS:
