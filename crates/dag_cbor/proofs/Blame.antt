@@ -1,9 +1,9 @@
 -- A fault that reading meets is one that the bytes have.
-use Rattle.std.proofs.Common.{◌≡◌, ℕ, zero, suc, ◌-◌, ◌/◌, ◌%◌, ◌^◌, ◌<◌, true, cond, eqb, ltb, pos, negsuc, List, [], ◌∷◌, ◌++◌, length, take, drop, Result, Ok, Err, Option, Some, None, refl, sym, ap, subst, ◌∙◌, append_assoc, arith, inl, inr, ◌⊎◌}
+use Rattle.std.proofs.Common.{◌≡◌, ℕ, zero, suc, ◌-◌, ◌/◌, ◌%◌, ◌^◌, ◌<◌, cond, eqb, ltb, pos, negsuc, List, [], ◌∷◌, ◌++◌, length, take, drop, Result, Ok, Err, Option, Some, None, refl, sym, ap, subst, ◌∙◌, append_assoc, arith, inl, inr, ◌⊎◌}
 use Rattle.std.specs.Int.{Width, w8, w16, w32, w64, byte_len, from_be_bytes}
 use Rattle.std.specs.Str.{IsUtf8, is_utf8}
 use Rattle.std.proofs.lemmas.Str.{is_utf8-from_IsUtf8}
-use Rattle.std.proofs.lemmas.Bool.{false≢true, both_ways, eqb-true, eqb-false}
+use Rattle.std.proofs.lemmas.Bool.{both_ways, eqb-true, eqb-false}
 use Rattle.fil_base.specs.CidParts.{CidParts, IsCid}
 use Rattle.fil_base.specs.CidBytes.{cid_bytes}
 use Rattle.dag_cbor.specs.declared.value.Value.TheVariants as v
@@ -14,10 +14,10 @@ use Rattle.dag_cbor.specs.declared.head.RawHead.{RawHead}
 use Rattle.dag_cbor.specs.declared.head.Head.{Head}
 use Rattle.dag_cbor.specs.declared.token.Token.{Token}
 use Rattle.dag_cbor.specs.declared.token.Token.TheVariants as tokens
-use Rattle.dag_cbor.specs.HeadRows.{shows, head_fault}
+use Rattle.dag_cbor.specs.HeadRows.{head_fault}
 use Rattle.dag_cbor.specs.Spelling.{head}
 use Rattle.dag_cbor.specs.Reading.{◌>>=◌, flaw, number_at, number_behind, with_number, unless, judged, within, of_link, as_cid, as_text, linked, blob_at, text_at, raw_head_at, head_at, link_at, simple, blob_token, text_token, link_token, token_after, token_at}
-use Rattle.dag_cbor.specs.Faults.{Level, opened, IsOpen, Spot, item, content, before, IsSpot, IsItemSpot, HeadRow, DepthRow, ContentRow, LinkRow, TextRow, Row}
+use Rattle.dag_cbor.specs.Faults.{Level, opened, IsOpen, Spot, item, content, before, IsSpot, IsItemSpot, DepthRow, ContentRow, LinkRow, TextRow, Row}
 use Rattle.dag_cbor.proofs.CidLaw.{cid_of-is}
 use Rattle.dag_cbor.proofs.Steps.{bind_ok, ok_is, chosen}
 use Rattle.dag_cbor.proofs.Numbers.{IsBytes, Takes}

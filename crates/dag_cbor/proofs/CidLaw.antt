@@ -73,11 +73,11 @@ version1_again c r one-is =
     ∙ ap (digest_at c.codec c.hash) (varint_again len (c.digest ++ r))
     ∙ ap (λ (p : CidParts). (p, drop len (c.digest ++ r))) (parts_are c 1 c.codec c.hash (take len (c.digest ++ r)) (sym one-is) refl refl front) ∙ ap (λ (s : List ℕ). (c, s)) back
 
-bytes_of_0 : (c : CidParts) → c.version ≡ 0 → cid_bytes c ≡ 0x12 ∷ (0x20 ∷ c.digest)
+pub bytes_of_0 : (c : CidParts) → c.version ≡ 0 → cid_bytes c ≡ 0x12 ∷ (0x20 ∷ c.digest)
 unfolding cid_bytes
 bytes_of_0 c is = rw is refl
 
-bytes_of_1 : (c : CidParts) → c.version ≡ 1 → cid_bytes c ≡ 1 ∷ (varint c.codec ++ (varint c.hash ++ (varint (length c.digest) ++ c.digest)))
+pub bytes_of_1 : (c : CidParts) → c.version ≡ 1 → cid_bytes c ≡ 1 ∷ (varint c.codec ++ (varint c.hash ++ (varint (length c.digest) ++ c.digest)))
 unfolding cid_bytes varint
 bytes_of_1 c is = rw is refl
 

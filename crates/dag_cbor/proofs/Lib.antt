@@ -4,10 +4,10 @@ pub mod OneFault
 mod CidLaw
 mod Stack
 mod Steps
-mod Numbers
-mod Heads
+pub mod Numbers
+pub mod Heads
 mod Tokens
-mod Items
+pub mod Items
 pub mod Whole
 mod Through
 mod RowReads
@@ -17,3 +17,8 @@ pub mod LinkEquations
 mod PutSteps
 mod LinkSteps
 mod JudgeSteps
+mod LinkBytes
+mod CidForms
+mod SkipSteps
+mod SkipFronts
+pub mod Fronts

@@ -1,5 +1,5 @@
 -- Bytes have one fault, and those that have one spell no value.
-use Rattle.std.proofs.Common.{◌≡◌, ℕ, ◌-◌, ◌<◌, ◌≤◌, cond, eqb, List, length, Result, Err, refl, sym, ap, ◌∙◌, arith, inl, inr}
+use Rattle.std.proofs.Common.{◌≡◌, ℕ, ◌-◌, cond, eqb, List, length, Err, refl, sym, ap, ◌∙◌, arith, inl, inr}
 use Rattle.dag_cbor.specs.declared.value.Value.{Value}
 use Rattle.dag_cbor.specs.declared.fault.CborFault.{CborFault}
 use Rattle.dag_cbor.specs.declared.fault.CborKind.{CborKind}
@@ -9,9 +9,9 @@ use Rattle.dag_cbor.specs.declared.decoding.TheConstants.{MAX_DEPTH}
 use Rattle.dag_cbor.specs.Plain.{IsPlain}
 use Rattle.dag_cbor.specs.Spelling.{spelled}
 use Rattle.dag_cbor.specs.Reading.{whole_at}
-use Rattle.dag_cbor.specs.Faults.{rank, IsFirst, IsCut, IsFault, cut, first}
+use Rattle.dag_cbor.specs.Faults.{rank, IsFirst, IsFault, cut, first}
 use Rattle.dag_cbor.proofs.Blame.{err_is}
-use Rattle.dag_cbor.proofs.RowReads.{Forced, row_forces}
+use Rattle.dag_cbor.proofs.RowReads.{row_forces}
 use Rattle.dag_cbor.proofs.Whole.{nothing_whole}
 
 -- the kind of this rank

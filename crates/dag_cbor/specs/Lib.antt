@@ -7,3 +7,5 @@ pub mod Reading
 pub mod Nesting
 pub mod Faults
 pub mod Links
+pub mod Behind
+pub mod CidForm

@@ -4,6 +4,8 @@
 //! ```text
 //! let value = decode(alloc, &[0x82, 0x01, 0x40])?;
 //! // value is a list of the integer 1 and no bytes
+//! let front = split_item(MAX_DEPTH, &[0x82, 0x01, 0x40, 0xf6]);
+//! // front is the first three bytes, which spell that value, and the byte that is left
 //! ```
 #![tactic(auto)]
 
@@ -11,15 +13,18 @@ mod decoding;
 mod encoding;
 mod fault;
 mod frame;
+mod front;
 mod head;
 mod key;
 mod laws;
 mod link;
+mod link_form;
 mod link_list;
 mod nested;
 mod partial;
 mod plain;
 mod rows;
+mod skipping;
 mod text;
 mod token;
 mod value;
@@ -28,12 +33,16 @@ mod writing;
 pub use decoding::{MAX_DEPTH, decode};
 pub use encoding::encode;
 pub use fault::{CborFault, CborKind};
+pub use front::{blob, list_head, split_item};
 pub use laws::{one_fault, one_spelling};
 pub use link_list::{links, links_in};
 pub use plain::{is_plain, is_plain_within};
 pub use value::Value;
+pub use writing::{put_head, put_link, put_string};
 
 #[cfg(test)]
 mod encode_tests;
+#[cfg(test)]
+mod front_tests;
 #[cfg(test)]
 mod tests;

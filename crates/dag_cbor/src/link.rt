@@ -1,6 +1,7 @@
 ghost use Rattle.std.specs.Prelude.{◌≡◌, IfOk};
 ghost use Rattle.dag_cbor.specs.CidReading.{cid_of};
-ghost use Rattle.dag_cbor.specs.Reading.{GivesOrNoMemory, linked, link_at};
+ghost use Rattle.dag_cbor.specs.Reading.{Gives, GivesOrNoMemory, linked, link_at};
+ghost use Rattle.dag_cbor.specs.Behind.{link_bytes_at};
 
 use crate::fault::{CborKind, Flaw};
 use crate::head::{BYTES, head_of};
@@ -9,18 +10,11 @@ use fil_base::{Cid, Failure, Mem, NoMemory, read_cid};
 use std::alloc::Global;
 
 /// The CID behind a link's tag, and the bytes after it, with so many bytes left at the tag.
-#[tactic(auto, unfolding(crate::specs::Reading::link_at))]
+#[tactic(auto, using(crate::proofs::LinkBytes::link_parts))]
 pub fn link_of(alloc: Global, left: u64, bytes: &[u8]) -> Result<(Cid, &[u8]), Failure<Flaw>>
     ensures { GivesOrNoMemory (λ x. (x.0, x.1.now)) result (link_at left bytes.now) }
 {
-    let (head, after) = head_of(bytes)?;
-    if head.major != BYTES {
-        return Err(Failure::Fault(Flaw {
-            kind: CborKind::LinkForm,
-            left,
-        }));
-    }
-    let (blob, rest) = blob_of(head.number, after)?;
+    let (blob, rest) = link_bytes_of(left, bytes)?;
     match cid_in(alloc, blob)? {
         None => Err(Failure::Fault(Flaw {
             kind: CborKind::LinkForm,
@@ -28,6 +22,22 @@ pub fn link_of(alloc: Global, left: u64, bytes: &[u8]) -> Result<(Cid, &[u8]), F
         })),
         Some(cid) => Ok((cid, rest)),
     }
+}
+
+/// The byte string at the place of a link's, and the bytes after it, with so many bytes left at the tag.
+#[inline(always)]
+#[tactic(auto, unfolding(crate::specs::Behind::link_bytes_at))]
+pub fn link_bytes_of(left: u64, bytes: &[u8]) -> Result<(&[u8], &[u8]), Flaw>
+    ensures { Gives (λ x. (x.0.now, x.1.now)) result (link_bytes_at left bytes.now) }
+{
+    let (head, after) = head_of(bytes)?;
+    if head.major != BYTES {
+        return Err(Flaw {
+            kind: CborKind::LinkForm,
+            left,
+        });
+    }
+    blob_of(head.number, after)
 }
 
 /// The CID behind a byte 00, if these bytes are no more and no less.

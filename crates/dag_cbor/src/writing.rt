@@ -8,7 +8,8 @@ use crate::head::{BYTES, NATURAL, NEGATIVE, SIMPLE, TAG};
 use crate::rows::LINK;
 use fil_base::{Cid, Mem, write_cid};
 
-/// Writes a head behind the bytes that are there.
+/// Writes the head of an item behind the bytes that are there: its major type, and its number in as few bytes as hold
+/// it. The head of a list is major type 4 with the count of its items, that of a map 5 with the count of its pairs.
 #[tactic(auto, unfolding(crate::specs::Spelling::head))]
 pub fn put_head(out: &mut Vec<u8>, major: u8, number: u64) -> Mem<()>
     requires { major < 8 }
@@ -45,7 +46,8 @@ pub fn put_integer(out: &mut Vec<u8>, integer: &i128) -> Mem<()>
     }
 }
 
-/// Writes a string of bytes or a text behind its length.
+/// Writes a byte string (major type 2) or a text (3), which is the head with its length and then these bytes. Whether
+/// the bytes of a text are UTF-8 is for the caller to know.
 pub fn put_string(out: &mut Vec<u8>, major: u8, bytes: &[u8]) -> Mem<()>
     requires { major < 8 }
     ensures { IfOk result (λ _. out.new.items ≡ out.old.items ++ (head major (length bytes.now) ++ bytes.now)) }
@@ -62,7 +64,7 @@ pub fn put_bool(out: &mut Vec<u8>, truth: bool) -> Mem<()>
     put_head(out, SIMPLE, if truth { 21 } else { 20 })
 }
 
-/// Writes a link.
+/// Writes a link: the tag 42, and a byte string of 00 and the CID.
 pub fn put_link(out: &mut Vec<u8>, cid: &Cid) -> Mem<()>
     ensures { IfOk result (λ _. out.new.items ≡ out.old.items ++ spelled_layer (layer.Link cid.now)) }
 {
