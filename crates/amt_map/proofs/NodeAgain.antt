@@ -51,7 +51,7 @@ block_there blocks b value there read = rw (there, ← read)
 pub same_again : (b : BlockParts) → same_block b b ≡ true
 same_again b = (λ i. parts_equiv.refl b.cid i && pointwise nat_eq b.bytes b.bytes) ∙ nat_list_eq_equiv.refl b.bytes
 
-judged_again : (height : ℕ) (ps : Pairs) → judged height (node_block height ps) ps ≡ Ok ps
+pub judged_again : (height : ℕ) (ps : Pairs) → judged height (node_block height ps) ps ≡ Ok ps
 judged_again height ps = ap (λ (t : Bool). cond t (Ok ps) (Err (NotCanonical (node_block height ps).cid (node_block height ps).cid))) (same_again (node_block height ps))
 
 abbrev pub Found : List BlockParts → List BlockParts → Type 0

@@ -1,5 +1,5 @@
 -- Steps of reading a node.
-use Rattle.std.proofs.Common.{◌≡◌, ℕ, zero, suc, ◌+◌, ◌<◌, ◌/◌, ◌%◌, ◌^◌, ◌==◌, List, [], ◌∷◌, ◌++◌, Bool, true, false, cond, length, take, get_or, filter, map, Some, None, Option, Ok, Err, Result, Vec, Global, All, ◌≤◌, zip, refl, sym, ap, subst, ◌∙◌, arith, append-nil, length-append, length-take-le, take_all}
+use Rattle.std.proofs.Common.{◌≡◌, ℕ, zero, suc, ◌+◌, ◌<◌, ◌/◌, ◌%◌, ◌^◌, ◌==◌, List, [], ◌∷◌, ◌++◌, Bool, true, false, cond, length, take, get_or, filter, Some, None, Option, Ok, Vec, Global, All, ◌≤◌, zip, refl, sym, ap, subst, ◌∙◌, arith, append-nil, length-append, length-take-le, take_all}
 use Rattle.std.proofs.lemmas.Bool.{eqb-true, eqb-false}
 use Rattle.std.proofs.lemmas.List.{take_more, map_push}
 use Rattle.std.proofs.lemmas.List.Elements.{filter-append, All-nil, All-cons, All-head, All-tail, All-filter, All-push, All-get_or, All-weaker, All-from_recursion}
@@ -8,8 +8,7 @@ use Rattle.dag_cbor.specs.Plain.{IsPlain}
 use Rattle.dag_cbor.specs.Reading.{whole_at}
 use Rattle.dag_cbor.specs.Spelling.{spelled}
 use Rattle.dag_cbor.specs.declared.value.Value.{Value, out-Value}
-use Rattle.dag_cbor.specs.declared.fault.Flaw.{Flaw}
-use Rattle.dag_cbor.proofs.Whole.{whole_again, whole_takes}
+use Rattle.dag_cbor.proofs.Whole.{whole_again}
 use Rattle.amt_map.specs.Node.{digits}
 use Rattle.amt_map.specs.Holds.{spellings}
 use Rattle.amt_map.specs.Pairs.{Pairs}
@@ -20,21 +19,11 @@ use Rattle.tree_blocks.proofs.ForEach.{for_each_more, for_each_none, if_some_giv
 
 -- ---- a block's bytes
 
-abbrev IsBytes : List ℕ → Type 0
-IsBytes bytes = (i : ℕ) → get_or bytes i 0 < 256
-
 -- the bytes of a plain value
 pub value_read : (bytes : List ℕ) (x : Value) → IsPlain 128 x → bytes ≡ spelled x → Some x ≡ value_in bytes
 value_read bytes x plain is =
     let read : whole_at bytes ≡ Ok x = ap whole_at is ∙ whole_again x plain in
     rw read
-
--- bytes that spell no plain value
-pub nothing_read : (bytes : List ℕ) → IsBytes bytes → ((x : Value) → IsPlain 128 x → bytes ≡ spelled x → ⊥) → None ≡ value_in bytes
-nothing_read bytes fits nothing = by_reading (whole_at bytes) refl where
-  by_reading : (r : Result Value Flaw) → whole_at bytes ≡ r → None ≡ value_in bytes
-  by_reading (Ok x) e = let taken = whole_takes bytes x fits e in absurd (nothing x taken.0 taken.1)
-  by_reading (Err at) e = rw e
 
 -- ---- the digits of a bitmap
 

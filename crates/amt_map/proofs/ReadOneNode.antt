@@ -80,7 +80,7 @@ slots_of {X} bits xs slots e = by (eqb (length xs) (length (set_digits bits))) e
 
 -- ---- a leaf
 
-leaf_slots : (node : NodeParts) (leaf : List (ℕ × Value)) → leaf_of node ≡ Some leaf → AreSlots leaf
+pub leaf_slots : (node : NodeParts) (leaf : List (ℕ × Value)) → leaf_of node ≡ Some leaf → AreSlots leaf
 leaf_slots node leaf e = by (eqb (length node.links) 0 && list_all (is_within 125) node.values) e where
   by : (b : Bool) → cond b (by_digit node.bits node.values) None ≡ Some leaf → AreSlots leaf
   by true same = slots_of node.bits node.values leaf same
@@ -118,9 +118,9 @@ sorted_both bound (x ∷ xs) ys rise others low high =
 -- ---- the pairs under children
 
 -- what is said of the pairs under links whose digits are at least a number
-record AreUnder (height place least : ℕ) (pairs : Pairs) : Type 0 where
-  rising : T (is_sorted nat_cmp pairs)
-  within : All (λ p. (place * 8 + least ≤ p.0 / 8 ^ suc height) × (p.0 / 8 ^ suc height < place * 8 + 8)) pairs
+pub record AreUnder (height place least : ℕ) (pairs : Pairs) : Type 0 where
+  pub rising : T (is_sorted nat_cmp pairs)
+  pub within : All (λ p. (place * 8 + least ≤ p.0 / 8 ^ suc height) × (p.0 / 8 ^ suc height < place * 8 + 8)) pairs
 
 below_next : (index place size : ℕ) → 0 < size → index / size ≡ place → index < (place + 1) * size
 below_next index place size some is =
@@ -136,7 +136,7 @@ not_below index place size le =
     let more : place * size ≤ index / size * size = mul-le-mul_right size le in
     omega (arith, whole, more)
 
-join_under : (height place digit least : ℕ) (pairs rest : Pairs) → digit < 8 → least ≤ digit → IsOneNode height (place * 8 + digit) pairs → AreUnder height place (digit + 1) rest → AreUnder height place least (pairs ++ rest)
+pub join_under : (height place digit least : ℕ) (pairs rest : Pairs) → digit < 8 → least ≤ digit → IsOneNode height (place * 8 + digit) pairs → AreUnder height place (digit + 1) rest → AreUnder height place least (pairs ++ rest)
 join_under height place digit least pairs rest small above one others = record {
   rising = sorted_both ((place * 8 + digit + 1) * 8 ^ suc height) pairs rest one.rising others.rising
       (All-weaker (λ p. p.0 / 8 ^ suc height ≡ place * 8 + digit) (λ p. p.0 < (place * 8 + digit + 1) * 8 ^ suc height) (λ p is. below_next p.0 (place * 8 + digit) (8 ^ suc height) (eight_pos (suc height)) is) pairs one.within)
@@ -148,13 +148,13 @@ join_under height place digit least pairs rest small above one others = record {
       (λ p h. (omega (arith, h.0, above), h.1)) rest others.within);
 }
 
-ok_gives : {A B : Type 0} (r : Result A TreeFault) (f : A → Result B TreeFault) (y : B) → if_ok r f ≡ Ok y → (x : A) × (r ≡ Ok x) × (f x ≡ Ok y)
+pub ok_gives : {A B : Type 0} (r : Result A TreeFault) (f : A → Result B TreeFault) (y : B) → if_ok r f ≡ Ok y → (x : A) × (r ≡ Ok x) × (f x ≡ Ok y)
 ok_gives (Ok x) f y e = (x, refl, e)
 ok_gives (Err fault) f y e = cc
 
 module _ (height place from : ℕ) (child : ℕ → CidParts → Result Pairs TreeFault)
     (one : (digit : ℕ) (cid : CidParts) (pairs : Pairs) → digit < 8 → child (from + digit * 8 ^ suc height) cid ≡ Ok pairs → IsOneNode height (place * 8 + digit) pairs) where
-  all_under : (least : ℕ) (links : List (ℕ × CidParts)) (pairs : Pairs) → T (is_sorted nat_cmp links) → All (λ l. (l.0 < 8) × (least ≤ l.0)) links → gathered child (8 ^ suc height) from links ≡ Ok pairs → AreUnder height place least pairs
+  pub all_under : (least : ℕ) (links : List (ℕ × CidParts)) (pairs : Pairs) → T (is_sorted nat_cmp links) → All (λ l. (l.0 < 8) × (least ≤ l.0)) links → gathered child (8 ^ suc height) from links ≡ Ok pairs → AreUnder height place least pairs
   all_under least [] pairs rise digits e =
       let nothing : [] ≡ pairs = cc in
       subst (AreUnder height place least) nothing (record { rising = tt; within = All-nil (λ p. (place * 8 + least ≤ p.0 / 8 ^ suc height) × (p.0 / 8 ^ suc height < place * 8 + 8)) })
@@ -171,19 +171,19 @@ module _ (height place from : ℕ) (child : ℕ → CidParts → Result Pairs Tr
 
 -- ---- nodes
 
-inner_slots : (node : NodeParts) (links : List (ℕ × CidParts)) → inner_of node ≡ Some links → AreSlots links
+pub inner_slots : (node : NodeParts) (links : List (ℕ × CidParts)) → inner_of node ≡ Some links → AreSlots links
 inner_slots node links e = by (eqb (length node.values) 0) e where
   by : (b : Bool) → cond b (if_some (for_each (λ link. link_in (out-Value link)) node.links) (by_digit node.bits)) None ≡ Some links → AreSlots links
   by true same = let cids = if_some_gives (for_each (λ link. link_in (out-Value link)) node.links) (by_digit node.bits) links same in slots_of node.bits cids.0 links cids.2
   by false same = cc
 
-one_leaf : (place : ℕ) (leaf : List (ℕ × Value)) → AreSlots leaf → IsOneNode 0 place (map (λ v. (place * 8 + v.0, v.1)) leaf)
+pub one_leaf : (place : ℕ) (leaf : List (ℕ × Value)) → AreSlots leaf → IsOneNode 0 place (map (λ v. (place * 8 + v.0, v.1)) leaf)
 one_leaf place leaf slots = record {
   within = All-map (λ p. p.0 / 8 ≡ place) (λ v. (place * 8 + v.0, v.1)) leaf (All-weaker (λ v. v.0 < 8) (λ v. (place * 8 + v.0) / 8 ≡ place) (λ v lt. div-mul-add place 8 v.0 lt) leaf slots.small);
   rising = shifted_sorted (place * 8) leaf slots.rising;
 }
 
-one_above : (height place : ℕ) (pairs : Pairs) → AreUnder height place 0 pairs → IsOneNode (suc height) place pairs
+pub one_above : (height place : ℕ) (pairs : Pairs) → AreUnder height place 0 pairs → IsOneNode (suc height) place pairs
 one_above height place pairs under = record {
   within = All-weaker (λ p. (place * 8 + 0 ≤ p.0 / 8 ^ suc height) × (p.0 / 8 ^ suc height < place * 8 + 8)) (λ p. p.0 / 8 ^ suc (suc height) ≡ place)
       (λ p h.
@@ -192,23 +192,23 @@ one_above height place pairs under = record {
   rising = under.rising;
 }
 
-leaf_gives : (cid : CidParts) (from : ℕ) (leaf : Option (List (ℕ × Value))) (pairs : Pairs) → leaf_pairs cid from leaf ≡ Ok pairs → (values : List (ℕ × Value)) × (leaf ≡ Some values) × (map (λ v. (from + v.0, v.1)) values ≡ pairs)
+pub leaf_gives : (cid : CidParts) (from : ℕ) (leaf : Option (List (ℕ × Value))) (pairs : Pairs) → leaf_pairs cid from leaf ≡ Ok pairs → (values : List (ℕ × Value)) × (leaf ≡ Some values) × (map (λ v. (from + v.0, v.1)) values ≡ pairs)
 leaf_gives cid from None pairs e = cc
 leaf_gives cid from (Some values) pairs e = let same : map (λ v. (from + v.0, v.1)) values ≡ pairs = cc in (values, refl, same)
 
-inner_gives : (child : ℕ → CidParts → Result Pairs TreeFault) (apart : ℕ) (cid : CidParts) (from : ℕ) (links : Option (List (ℕ × CidParts))) (pairs : Pairs) → inner_pairs child apart cid from links ≡ Ok pairs
+pub inner_gives : (child : ℕ → CidParts → Result Pairs TreeFault) (apart : ℕ) (cid : CidParts) (from : ℕ) (links : Option (List (ℕ × CidParts))) (pairs : Pairs) → inner_pairs child apart cid from links ≡ Ok pairs
     → (those : List (ℕ × CidParts)) × (links ≡ Some those) × (gathered child apart from those ≡ Ok pairs)
 inner_gives child apart cid from None pairs e = cc
 inner_gives child apart cid from (Some those) pairs e = (those, refl, e)
 
-judged_gives : (height : ℕ) (b : BlockParts) (pairs those : Pairs) → judged height b pairs ≡ Ok those → pairs ≡ those
+pub judged_gives : (height : ℕ) (b : BlockParts) (pairs those : Pairs) → judged height b pairs ≡ Ok those → pairs ≡ those
 judged_gives height b pairs those e = by (same_block (node_block height pairs) b) e where
   by : (t : Bool) → cond t (Ok pairs) (Err (NotCanonical b.cid (node_block height pairs).cid)) ≡ Ok those → pairs ≡ those
   by true same = cc
   by false same = cc
 
 -- a child that gives pairs has a node that gives them
-child_gives : (blocks : List BlockParts) (height from : ℕ) (cid : CidParts) (pairs : Pairs) → child_pairs blocks height from cid ≡ Ok pairs → (value : Value) × (node_pairs blocks height cid from value ≡ Ok pairs)
+pub child_gives : (blocks : List BlockParts) (height from : ℕ) (cid : CidParts) (pairs : Pairs) → child_pairs blocks height from cid ≡ Ok pairs → (value : Value) × (node_pairs blocks height cid from value ≡ Ok pairs)
 child_gives blocks height from cid pairs e =
     let block = ok_gives (block_value blocks cid) (λ p. if_ok (node_pairs blocks height cid from p.1) (judged height p.0)) pairs (sym (block_step blocks cid (λ b value. if_ok (node_pairs blocks height cid from value) (judged height b))) ∙ e) in
     let node = ok_gives (node_pairs blocks height cid from block.0.1) (judged height block.0.0) pairs block.2 in

@@ -81,7 +81,7 @@ entries_again m = same_map nat_cmp_total nat_cmp-IsAntisymmetric (from_entries (
 
 -- ---- the root
 
-root_again : (m : Map) → judged_root (root_block (entries m)) m ≡ Ok m
+pub root_again : (m : Map) → judged_root (root_block (entries m)) m ≡ Ok m
 root_again m = ap (λ (t : Bool). cond t (Ok m) (Err (NotCanonical (root_block (entries m)).cid (root_block (entries m)).cid))) (same_again (root_block (entries m)))
 
 pub map_again : (m : Map) (blocks : List BlockParts) → FitRoot (entries m) → Found blocks (amt_nodes m) → amt_at blocks (amt_root m) ≡ Ok m

@@ -1,6 +1,6 @@
 -- Steps of walking a tree.
-use Rattle.std.proofs.Common.{◌≡◌, ℕ, zero, suc, ◌+◌, ◌-◌, ◌*◌, ◌^◌, ◌≤◌, ◌<◌, List, [], ◌∷◌, ◌++◌, length, take, drop, map, Some, None, Option, Ok, Err, Result, IfOk, IfErr, OnOk, Vec, Global, arith, subst, refl, sym, ap, ◌∙◌, length-append, length-drop, take_all}
-use Rattle.std.proofs.lemmas.List.{drop-append-le, drop-map, length-map}
+use Rattle.std.proofs.Common.{◌≡◌, ℕ, zero, suc, ◌+◌, ◌-◌, ◌^◌, ◌≤◌, List, [], ◌∷◌, ◌++◌, length, take, drop, Some, None, Option, Ok, Err, Result, IfOk, IfErr, OnOk, Vec, Global, arith, refl, sym, ap, ◌∙◌, length-drop, take_all}
+use Rattle.std.proofs.lemmas.List.{drop-append-le, drop-map}
 use Rattle.std.specs.FinMap.{from_entries}
 use Rattle.fil_base.specs.CidParts.{CidParts}
 use Rattle.fil_base.specs.Failure.{IfFault}
@@ -11,7 +11,6 @@ use Rattle.dag_cbor.specs.declared.value.Value.{Value}
 use Rattle.tree_blocks.specs.Forms.{if_some}
 use Rattle.tree_blocks.specs.Judging.{if_ok}
 use Rattle.tree_blocks.specs.declared.fault.TreeFault.{TreeFault}
-use Rattle.tree_blocks.specs.declared.fault.TreeFault.TheVariants.{Missing, Form}
 use Rattle.amt_map.specs.Holds.{Holds, spellings}
 use Rattle.amt_map.specs.Loading.{ArePut, IsFaultOf, block_value, child_pairs}
 use Rattle.amt_map.specs.Pairs.{Map, Pairs}
@@ -36,6 +35,10 @@ block_gives {A} blocks cid b value f e = block_step blocks cid f ∙ ap (λ (r :
 
 pub no_block : {A : Type 0} (blocks : List BlockParts) (cid : CidParts) (fault : TreeFault) (f : BlockParts → Value → Result A TreeFault) → block_value blocks cid ≡ Err fault → with_value blocks cid f ≡ Err fault
 no_block {A} blocks cid fault f e = block_step blocks cid f ∙ ap (λ (r : Result (BlockParts × Value) TreeFault). if_ok r (λ p. f p.0 p.1)) e
+
+-- the block that was found, with the value that it spells
+pub block_read : (blocks : List BlockParts) (cid : CidParts) (b : BlockParts) (value : Value) → found blocks cid ≡ Some b → Some value ≡ value_in b.bytes → block_value blocks cid ≡ Ok (b, value)
+block_read blocks cid b value there read = rw (there, ← read)
 
 -- ---- the pairs under a node
 
@@ -72,12 +75,11 @@ child_judged : (blocks : List BlockParts) (height from : ℕ) (cid : CidParts) (
 child_judged blocks height from cid b value pairs block node =
     block_gives blocks cid b value (λ b value. if_ok (node_pairs blocks height cid from value) (judged height b)) block ∙ ap (λ (r : Result Pairs TreeFault). if_ok r (judged height b)) node
 
-pub child_found : {X E : Type 0} (blocks : List BlockParts) (height from : ℕ) (cid : CidParts) (b : BlockParts) (value : Value) (old now slice : List (ℕ × List ℕ)) (r : Result X E) → block_value blocks cid ≡ Ok (b, value)
-    → (put : ArePut (node_pairs blocks height cid from value) old now) → slice ≡ spellings put.pairs
-    → ((those : Pairs) → slice ≡ spellings those → IfOk r (λ u. judged height b those ≡ Ok those)) → OnOk r (ArePut (child_pairs blocks height from cid) old now)
-child_found blocks height from cid b value old now slice (Ok x) block put are judges =
-    record { pairs = put.pairs; walk = child_judged blocks height from cid b value put.pairs block put.walk ∙ judges put.pairs are; same = put.same; fit = put.fit }
-child_found blocks height from cid b value old now slice (Err e) block put are judges = tt
+pub child_found : {X E : Type 0} (blocks : List BlockParts) (height from : ℕ) (cid : CidParts) (b : BlockParts) (value : Value) (old now : List (ℕ × List ℕ)) (r : Result X E) → block_value blocks cid ≡ Ok (b, value)
+    → (put : ArePut (node_pairs blocks height cid from value) old now) → IfOk r (λ u. judged height b put.pairs ≡ Ok put.pairs) → OnOk r (ArePut (child_pairs blocks height from cid) old now)
+child_found blocks height from cid b value old now (Ok x) block put judges =
+    record { pairs = put.pairs; walk = child_judged blocks height from cid b value put.pairs block put.walk ∙ judges; same = put.same; fit = put.fit }
+child_found blocks height from cid b value old now (Err e) block put judges = tt
 
 pub child_fault : {X : Type 0} (blocks : List BlockParts) (height from : ℕ) (cid : CidParts) (b : BlockParts) (value : Value) (old now slice : List (ℕ × List ℕ)) (r : Result X (Failure TreeFault)) → block_value blocks cid ≡ Ok (b, value)
     → (put : ArePut (node_pairs blocks height cid from value) old now) → slice ≡ spellings put.pairs

@@ -8,15 +8,15 @@ use Rattle.dag_cbor.specs.declared.value.Value.TheOpen as layer
 use Rattle.dag_cbor.specs.Plain.{IsPlain, IsPlainLayer, IsText}
 use Rattle.amt_map.specs.Depth.{all_items, is_within}
 
-both : (a b : Bool) → a ≡ true → b ≡ true → (a && b) ≡ true
+pub both : (a b : Bool) → a ≡ true → b ≡ true → (a && b) ≡ true
 both true b ha hb = hb
 both false b ha hb = ha
 
-first : (a b : Bool) → (a && b) ≡ true → a ≡ true
+pub first : (a b : Bool) → (a && b) ≡ true → a ≡ true
 first true b h = refl
 first false b h = h
 
-second : (a b : Bool) → (a && b) ≡ true → b ≡ true
+pub second : (a b : Bool) → (a && b) ≡ true → b ≡ true
 second true b h = h
 second false b h = absurd (false≢true h)
 

@@ -7,4 +7,6 @@ pub mod Stands
 pub mod OneNode
 pub mod NodeText
 pub mod Reading
+pub mod ValueBytes
 pub mod Loading
+pub mod Canonical

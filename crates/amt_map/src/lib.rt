@@ -17,6 +17,7 @@ mod nodes;
 mod pairs;
 mod runs;
 mod slots;
+mod value_bytes;
 
 pub use amt::Amt;
 pub use laws::{one_map, one_order};

@@ -65,6 +65,14 @@ const UNDER_SHA2: &[u8] = b"\x83\x01\x02\x83\x41\x03\x82\xd8\x2a\x58\x25\x00\x01
     \x09\x17\xa7\x3f\x0e\x82\xab\x23\x86\x42\xd2\xa5\xd8\x57\x9d\xfe\
     \x03\x26\x55\x3e\x0b\x5d\x9b\x64\x67\x87\xc5\x80";
 
+// A root over the two leaves, whose link to the first has the codec of raw bytes.
+const UNDER_RAW: &[u8] = b"\x83\x01\x02\x83\x41\x03\x82\xd8\x2a\x58\x27\x00\x01\x55\xa0\xe4\
+    \x02\x20\x23\x43\xef\x70\x8c\xfe\x66\x7d\x6a\xf0\x64\x90\x61\xa8\
+    \x9b\x41\xd2\xad\xfb\x0b\x51\xcf\xa1\xae\x30\xe3\xe3\xf0\x89\xbd\
+    \x7e\x72\xd8\x2a\x58\x27\x00\x01\x71\xa0\xe4\x02\x20\x4e\xd1\x9c\
+    \xde\x67\x09\x17\xa7\x3f\x0e\x82\xab\x23\x86\x42\xd2\xa5\xd8\x57\
+    \x9d\xfe\x03\x26\x55\x3e\x0b\x5d\x9b\x64\x67\x87\xc5\x80";
+
 // The SHA2-256 of the first leaf.
 const FIRST_SHA2: &[u8] = b"\xef\x55\x34\x4a\x84\xba\x99\xa0\x14\xa3\x91\xf2\x4a\xe1\x79\xc3\
     \x76\x9f\xfe\x9c\x8e\x9c\xde\x6a\x11\xe1\x7e\x37\x8c\x80\xd9\xa6";
@@ -249,6 +257,21 @@ fn a_child_under_another_hash_is_refused(rt: HostRuntime) -> Result<(), Fail> {
     let base = ThreeBlocks {
         root: block(rt, UNDER_SHA2)?,
         first: Block::checked(cid, bytes).ok().ok_or("no block")?,
+        second: block(rt, SECOND)?,
+    };
+    let canonical = block(rt, FIRST)?;
+    let fault = fault_of(Amt::load(rt.alloc(), &base, base.root.cid()));
+    assert!(rt; is_not_canonical(&fault, base.first.cid(), canonical.cid()));
+    Ok(())
+}
+
+// The child has the right bytes, but not the right codec.
+#[test]
+fn a_child_in_another_codec_is_refused(rt: HostRuntime) -> Result<(), Fail> {
+    let bytes = Bytes::copy_of(rt.alloc(), FIRST)?;
+    let base = ThreeBlocks {
+        root: block(rt, UNDER_RAW)?,
+        first: Block::of(rt.alloc(), 0x55, bytes)?,
         second: block(rt, SECOND)?,
     };
     let canonical = block(rt, FIRST)?;

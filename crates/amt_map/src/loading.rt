@@ -1,18 +1,18 @@
-ghost use Rattle.std.specs.Prelude.{◌≡◌, ◌≤◌, ◌<◌, ◌+◌, ◌*◌, ◌^◌, ℕ, suc, All, IfErr, IfOk, OnOk};
+ghost use Rattle.std.specs.Prelude.{◌≡◌, ◌≤◌, ◌<◌, ◌+◌, ◌*◌, ◌^◌, ◌&&◌, ℕ, suc, All, IfErr, IfOk, IsTrue, OnOk, nat_lt};
 ghost use Rattle.fil_base.specs.Failure.{IfFault};
-ghost use Rattle.dag_cbor.specs.Plain.{IsPlain};
 ghost use Rattle.amt_map.specs.Holds.{Holds};
-ghost use Rattle.amt_map.specs.Loading.{ArePut, IsFaultOf, block_value, child_pairs};
+ghost use Rattle.amt_map.specs.Loading.{ArePut, HasPairs, IsFaultOf, IsNodeOf, block_value, child_pairs};
 ghost use Rattle.amt_map.specs.Pairs.{Map};
 ghost use Rattle.amt_map.specs.Reading.{shown};
+ghost use Rattle.amt_map.specs.ValueBytes.{IsOneValue, the_value};
 ghost use Rattle.amt_map.specs.Walk.{amt_at, gathered, inner_of, inner_pairs, leaf_of, leaf_pairs, node_pairs, parts_in};
 ghost use Rattle.tree_blocks.specs.Forms.{if_some};
 
-use crate::judging::{judge, judge_root, map_of};
-use crate::node_form::{inner_in, leaf_in, root_in, value_in};
+use crate::judging::{judge, judge_root};
+use crate::node_form::{ReadRoot, inner_in, leaf_in, root_in};
 use crate::pairs::Spelled;
+use crate::value_bytes::is_one_value;
 use cid_core::{Block, BlockSource};
-use dag_cbor::Value;
 use fil_base::{Cid, Failure};
 use std::alloc::Global;
 use tree_blocks::TreeFault;
@@ -28,38 +28,42 @@ pub(crate) fn load_pairs<B: BlockSource>(
     ensures fault { IfErr result (λ failure. IfFault failure (λ fault.
         amt_at (B.blocks base.now) root.now ≡ Err fault)) }
 {
-    let (block, value) = value_under(alloc, base, root)?;
-    let Some((height, node)) = root_in(&value) else {
+    let block = value_under(alloc, base, root)?;
+    let Some(read) = root_in(alloc, block.bytes())? else {
         return Err(TreeFault::no_node(alloc, root));
     };
+    let ReadRoot {
+        height,
+        count,
+        node,
+    } = read;
     let mut pairs = Vec::new(alloc);
-    put_pairs(alloc, base, &mut pairs, height, root, 0, node)?;
-    let map = map_of(alloc, pairs)?;
-    judge_root(alloc, block, map)
+    let full = put_pairs(alloc, base, &mut pairs, height, root, 0, node)?;
+    judge_root(alloc, block, height, count, full, pairs)
 }
 
-/// The block under a CID, and the value of its bytes.
+/// The block under a CID, whose bytes spell a value.
 fn value_under<'a, B: BlockSource>(
     alloc: Global,
     base: &'a B,
     cid: &Cid,
-) -> Result<(&'a Block, Value), Failure<TreeFault>>
-    ensures found { IfOk result (λ found.
-        block_value (B.blocks base.now) cid.now ≡ Ok (found.0.now, found.1)) }
-    ensures plain { IfOk result (λ found. IsPlain 128 found.1) }
+) -> Result<&'a Block, Failure<TreeFault>>
+    ensures found { IfOk result (λ block.
+        block_value (B.blocks base.now) cid.now ≡ Ok (block.now, the_value block.now.bytes)) }
+    ensures value { IfOk result (λ block. IsOneValue block.now.bytes) }
     ensures fault { IfErr result (IsFaultOf (block_value (B.blocks base.now) cid.now)) }
 {
     let Some(block) = base.find(cid) else {
         return Err(TreeFault::missing(alloc, cid));
     };
-    let Some(value) = value_in(alloc, block.bytes())? else {
+    if !is_one_value(block.bytes()) {
         return Err(TreeFault::no_node(alloc, cid));
-    };
-    Ok((block, value))
+    }
+    Ok(block)
 }
 
 /// Puts the pairs of the node that a value is, in the block under a CID, behind those that are there. The node's height
-/// and its first index are given.
+/// and its first index are given. It answers whether the node is full: all its children have pairs.
 #[cycle(walking)]
 fn put_pairs<B: BlockSource>(
     alloc: Global,
@@ -68,15 +72,17 @@ fn put_pairs<B: BlockSource>(
     height: u64,
     cid: &Cid,
     from: u64,
-    node: &Value,
-) -> Result<(), Failure<TreeFault>>
+    node: &[u8],
+) -> Result<bool, Failure<TreeFault>>
     requires height { height ≤ 19 }
     requires from { from + 8 ^ suc height ≤ 2 ^ 60 }
     requires place { (place : ℕ) × (from ≡ place * 8 ^ suc height) }
-    requires plain { (depth : ℕ) × IsPlain depth node.now }
-    ensures found { OnOk result (ArePut (node_pairs (B.blocks base.now) height cid.now from node.now)
+    requires value { IsOneValue node.now }
+    ensures found { OnOk result (ArePut (node_pairs (B.blocks base.now) height cid.now from (the_value node.now))
         (shown pairs.old.items) (shown pairs.new.items)) }
-    ensures fault { IfErr result (IsFaultOf (node_pairs (B.blocks base.now) height cid.now from node.now)) }
+    ensures node { IfOk result (λ full. IsTrue full → IsNodeOf height (the_value node.now)
+        (node_pairs (B.blocks base.now) height cid.now from (the_value node.now))) }
+    ensures fault { IfErr result (IsFaultOf (node_pairs (B.blocks base.now) height cid.now from (the_value node.now))) }
 {
     if height == 0 {
         put_leaf(alloc, pairs, cid, from, node)
@@ -85,19 +91,22 @@ fn put_pairs<B: BlockSource>(
     }
 }
 
-/// Puts the pairs of a node at height 0 behind those that are there.
+/// Puts the pairs of a node at height 0 behind those that are there. It answers that the node is full.
 fn put_leaf(
     alloc: Global,
     pairs: &mut Vec<(u64, Vec<u8>)>,
     cid: &Cid,
     from: u64,
-    node: &Value,
-) -> Result<(), Failure<TreeFault>>
+    node: &[u8],
+) -> Result<bool, Failure<TreeFault>>
     requires from { from + 8 ≤ 2 ^ 60 }
-    requires plain { (depth : ℕ) × IsPlain depth node.now }
-    ensures found { OnOk result (ArePut (leaf_pairs cid.now from (if_some (parts_in node.now) leaf_of))
+    requires place { (place : ℕ) × (from ≡ place * 8) }
+    requires value { IsOneValue node.now }
+    ensures found { OnOk result (ArePut (leaf_pairs cid.now from (if_some (parts_in (the_value node.now)) leaf_of))
         (shown pairs.old.items) (shown pairs.new.items)) }
-    ensures fault { IfErr result (IsFaultOf (leaf_pairs cid.now from (if_some (parts_in node.now) leaf_of))) }
+    ensures node { IfOk result (λ full. IsTrue full → IsNodeOf 0 (the_value node.now)
+        (leaf_pairs cid.now from (if_some (parts_in (the_value node.now)) leaf_of))) }
+    ensures fault { IfErr result (IsFaultOf (leaf_pairs cid.now from (if_some (parts_in (the_value node.now)) leaf_of))) }
 {
     let Some(values) = leaf_in(alloc, node)? else {
         return Err(TreeFault::no_node(alloc, cid));
@@ -105,10 +114,11 @@ fn put_leaf(
     for (digit, spelling) in values {
         pairs.push((from + digit, spelling))?;
     }
-    Ok(())
+    Ok(true)
 }
 
-/// Puts the pairs under a node with children at a height behind those that are there.
+/// Puts the pairs under a node with children at a height behind those that are there. It answers whether the node is
+/// full.
 #[cycle(walking)]
 fn put_inner<B: BlockSource>(
     alloc: Global,
@@ -117,15 +127,19 @@ fn put_inner<B: BlockSource>(
     height: u64,
     cid: &Cid,
     from: u64,
-    node: &Value,
-) -> Result<(), Failure<TreeFault>>
+    node: &[u8],
+) -> Result<bool, Failure<TreeFault>>
     requires height { height ≤ 18 }
     requires from { from + 8 ^ suc (suc height) ≤ 2 ^ 60 }
     requires place { (place : ℕ) × (from ≡ place * 8 ^ suc (suc height)) }
+    requires value { IsOneValue node.now }
     ensures found { OnOk result (ArePut (inner_pairs (child_pairs (B.blocks base.now) height) (8 ^ suc height) cid.now from
-        (if_some (parts_in node.now) inner_of)) (shown pairs.old.items) (shown pairs.new.items)) }
+        (if_some (parts_in (the_value node.now)) inner_of)) (shown pairs.old.items) (shown pairs.new.items)) }
+    ensures node { IfOk result (λ full. IsTrue full → IsNodeOf (suc height) (the_value node.now)
+        (inner_pairs (child_pairs (B.blocks base.now) height) (8 ^ suc height) cid.now from
+        (if_some (parts_in (the_value node.now)) inner_of))) }
     ensures fault { IfErr result (IsFaultOf (inner_pairs (child_pairs (B.blocks base.now) height) (8 ^ suc height) cid.now from
-        (if_some (parts_in node.now) inner_of))) }
+        (if_some (parts_in (the_value node.now)) inner_of))) }
 {
     let Some(links) = inner_in(alloc, node)? else {
         return Err(TreeFault::no_node(alloc, cid));
@@ -134,7 +148,7 @@ fn put_inner<B: BlockSource>(
 }
 
 /// Puts the pairs under children at a height behind those that are there. The children's digits are given, and the
-/// first index of the node above.
+/// first index of the node above. It answers whether each child has pairs.
 #[cycle(walking)]
 fn put_children<B: BlockSource>(
     alloc: Global,
@@ -143,20 +157,32 @@ fn put_children<B: BlockSource>(
     height: u64,
     from: u64,
     links: Vec<(u64, Cid)>,
-) -> Result<(), Failure<TreeFault>>
+) -> Result<bool, Failure<TreeFault>>
     requires height { height ≤ 18 }
     requires from { from + 8 ^ suc (suc height) ≤ 2 ^ 60 }
     requires place { (place : ℕ) × (from ≡ place * 8 ^ suc (suc height)) }
     requires digits { All (λ link. link.0 < 8) links.items }
     ensures found { OnOk result (ArePut (gathered (child_pairs (B.blocks base.now) height) (8 ^ suc height) from links.items)
         (shown pairs.old.items) (shown pairs.new.items)) }
+    ensures full { IfOk result (λ full. IsTrue full → All (λ link. HasPairs
+        (child_pairs (B.blocks base.now) height (from + link.0 * 8 ^ suc height) link.1)) links.items) }
     ensures fault { IfErr result (IsFaultOf (gathered (child_pairs (B.blocks base.now) height) (8 ^ suc height) from links.items)) }
 {
+    let mut full = true;
     for (digit, cid) in links {
         let first = first_index(height, from, digit);
+        let before = pairs.len();
         put_child(alloc, base, pairs, height, first, &cid)?;
+        full = is_still_full(full, before, pairs.len());
     }
-    Ok(())
+    Ok(full)
+}
+
+/// Whether all children have pairs up to one before which there were so many pairs, and so many with those under it.
+fn is_still_full(full: bool, before: usize, after: usize) -> bool
+    ensures { result ≡ (full && nat_lt before after) }
+{
+    full && before < after
 }
 
 /// The first index of the child at a height that has this digit, where that of the node above is given.
@@ -189,8 +215,8 @@ fn put_child<B: BlockSource>(
         (shown pairs.old.items) (shown pairs.new.items)) }
     ensures fault { IfErr result (IsFaultOf (child_pairs (B.blocks base.now) height from cid.now)) }
 {
-    let (block, value) = value_under(alloc, base, cid)?;
+    let block = value_under(alloc, base, cid)?;
     let before = pairs.len();
-    put_pairs(alloc, base, pairs, height, cid, from, &value)?;
-    judge(alloc, height, block, &pairs[before..])
+    let full = put_pairs(alloc, base, pairs, height, cid, from, block.bytes())?;
+    judge(alloc, height, block, full, &pairs[before..])
 }

@@ -17,7 +17,7 @@ use fil_base::{Bytes, Cid, Mem};
 use std::alloc::Global;
 
 /// The codec of DAG-CBOR (multicodec).
-const DAG_CBOR: u64 = 0x71;
+pub(crate) const DAG_CBOR: u64 = 0x71;
 
 /// The block of the node at a height of these pairs: indexes with the spellings of their values.
 pub(crate) fn node_block(alloc: Global, height: u64, pairs: &[(u64, Vec<u8>)]) -> Mem<Block>

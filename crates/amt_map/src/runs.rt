@@ -67,7 +67,7 @@ pub(crate) fn height_of(pairs: &[(u64, &[u8])]) -> u64
 }
 
 /// The height of the tree that has an index, and none above it.
-fn height_of_index(index: u64) -> u64
+pub(crate) fn height_of_index(index: u64) -> u64
     ensures value { result ≡ tree_height ((index, index) ∷ []) }
     ensures bound { result ≤ 19 }
 {

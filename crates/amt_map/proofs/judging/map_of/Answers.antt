@@ -1,4 +1,4 @@
-use Rattle.std.proofs.Common.{sym, ap, ◌∙◌, List, ℕ}
+use Rattle.std.proofs.Common.{sym, ◌∙◌}
 use Rattle.std.proofs.lemmas.List.{nil_from_length}
 use Rattle.amt_map.proofs.MapOf.{last_left, last_spelling, map_more, map_end}
 use Rattle.amt_map.proofs.judging.map_of.Goals as goal

@@ -1,7 +1,10 @@
-use Rattle.std.proofs.Common.{sym, ap, subst, ◌∙◌, ◌++◌, ◌∷◌, [], ◌+◌, List, ℕ, Vec, Global, ◌<◌, All}
+use Rattle.std.proofs.Common.{sym, ap, subst, ◌∙◌, ◌+◌, List, ℕ, Vec, Global, ◌<◌, All, arith}
 use Rattle.std.proofs.lemmas.List.{map_push, nil_from_length}
 use Rattle.amt_map.specs.Reading.{AreSpelled, shown}
+use Rattle.amt_map.specs.ValueBytes.{the_value}
+use Rattle.amt_map.proofs.CanonicalNode.{leaf_is_node}
 use Rattle.amt_map.proofs.Gathering.{leaf_begin, leaf_more, leaf_end}
+use Rattle.amt_map.proofs.OneValue.{the_spelled}
 use Rattle.amt_map.proofs.loading.put_leaf.Goals as goal
 
 pub loop-digit-init : goal.loop-digit-init
@@ -18,3 +21,6 @@ loop-digit-preserved c =
 
 pub returns-clause-found : goal.returns-clause-found
 returns-clause-found c = leaf_end c.args.from _ c.args.cid.now _ _ _ (nil_from_length _ (sym c.loop-digit.digit-iterator.rest.ok.0 ∙ c.in-None.ensures.steps.0)) c.loop-digit.invariant
+
+pub returns-clause-node : goal.returns-clause-node
+returns-clause-node c = λ so pairs e. leaf_is_node c.args.node.now (the_value c.args.node.now) c.args.cid.now c.requires.place.0 c.args.from pairs c.requires.place.1 (λ i. omega (arith, c.type_inv.node i)) (the_spelled c.args.node.now c.requires.value) e

@@ -1,18 +1,25 @@
-use Rattle.std.proofs.Common.{sym, subst, ◌∙◌, ap, All, ◌<◌, ℕ, List}
-use Rattle.std.proofs.lemmas.List.Elements.{All-get_or}
-use Rattle.dag_cbor.specs.Plain.{IsPlain}
-use Rattle.amt_map.proofs.Depths.{three_deeper}
-use Rattle.amt_map.proofs.NodeForm.{digits_small, spelled_more, spelled_end}
+use Rattle.std.proofs.Common.{sym, ◌∙◌, arith}
+use Rattle.amt_map.specs.ValueBytes.{the_items}
+use Rattle.amt_map.proofs.ReadValues.{values_deep, values_end, values_more}
+use Rattle.amt_map.proofs.ThreeItems.{items_plain}
 use Rattle.amt_map.proofs.node_form.spellings_by_digit.Goals as goal
 
-pub encode-requires : goal.encode-requires
-encode-requires c = three_deeper 125 c.index-values-place.result (subst (IsPlain 125) (sym c.index-values-place.is) (All-get_or (IsPlain 125) c.args.values.now c.loop-place.place _ c.loop-place-test.true c.requires))
+pub returns-in_default-clause-found : goal.returns-in_default-clause-found
+returns-in_default-clause-found c =
+    let count = sym (c.len.ensures ∙ c.in_ok-digits.digits.ok.0) ∙ sym c.if-value_count-len.false ∙ c.items_of-value_count.ensures.count in
+    values_deep c.args.bits c.in_ok-digits.digits.items (the_items c.args.values.now) c.loop-place.place c.loop-place.spellings.items c.loop-place.rest.now count (items_plain c.args.values.now c.requires)
+    (omega (arith, c.loop-place-test.true, c.len-place-end.ensures, c.in_ok-digits.digits.ok.0)) c.in_default.ensures.only c.loop-place.invariant
 
 pub loop-place-preserved : goal.loop-place-preserved
 loop-place-preserved c =
-    spelled_more c.in_ok-digits.digits.items c.args.values.now c.loop-place.place c.loop-place.spellings.items _ c.index-digit.result.now c.index-values-place.result c.into_vec.result (sym (c.if-values-len.false ∙ c.len.ensures ∙ c.in_ok-digits.digits.ok.0))
-    (subst (All (λ d. d < 8)) (sym c.in_ok-digits.ensures) (digits_small c.args.bits)) c.loop-place-test.true c.index-digit.ensures c.index-values-place.is (c.into_vec.ensures ∙ c.in_ok-spelling.ensures) c.in_ok-push.ensures.items c.loop-place.invariant
+    let count = sym (c.len.ensures ∙ c.in_ok-digits.digits.ok.0) ∙ sym c.if-value_count-len.false ∙ c.items_of-value_count.ensures.count in
+    let found = c.in-Some.ensures.found in
+    values_more c.args.bits c.in_ok-digits.digits.items (the_items c.args.values.now) c.loop-place.place c.loop-place.spellings.items _ c.loop-place.rest.now c.in-Some.item.now c.in-Some.behind.now c.index.result.now found.0 c.in_ok-spelling.spelling
+    c.in_ok-digits.ensures count (items_plain c.args.values.now c.requires) (omega (arith, c.loop-place-test.true, c.len-place-end.ensures, c.in_ok-digits.digits.ok.0)) found.1 found.2 found.3 c.index.ensures c.in_ok-spelling.ensures.items
+    c.in_ok-push.ensures.items c.loop-place.invariant
 
 pub returns-clause-found : goal.returns-clause-found
 returns-clause-found c =
-    spelled_end c.args.bits c.in_ok-digits.digits.items c.args.values.now c.loop-place.place c.loop-place.spellings.items c.in_ok-digits.ensures (c.if-values-len.false ∙ c.len.ensures ∙ c.in_ok-digits.digits.ok.0) c.loop-place-test.false c.requires c.loop-place.invariant
+    let count = sym (c.len.ensures ∙ c.in_ok-digits.digits.ok.0) ∙ sym c.if-value_count-len.false ∙ c.items_of-value_count.ensures.count in
+    values_end c.args.bits c.in_ok-digits.digits.items (the_items c.args.values.now) c.loop-place.place c.loop-place.spellings.items c.loop-place.rest.now c.in_ok-digits.ensures count
+    (omega (arith, c.loop-place-test.false, c.len-place-end.ensures, c.in_ok-digits.digits.ok.0)) c.loop-place.invariant

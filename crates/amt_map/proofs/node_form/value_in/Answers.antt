@@ -1,9 +1,0 @@
-use Rattle.std.proofs.Common.{arith}
-use Rattle.amt_map.proofs.NodeForm.{value_read, nothing_read}
-use Rattle.amt_map.proofs.node_form.value_in.Goals as goal
-
-pub returns-in-Ok-clause-value : goal.returns-in-Ok-clause-value
-returns-in-Ok-clause-value c = value_read c.args.bytes.now c.in-Ok.value c.in-Ok.ensures.found.0 c.in-Ok.ensures.found.1
-
-pub returns-in-Err-Fault-clause-value : goal.returns-in-Err-Fault-clause-value
-returns-in-Err-Fault-clause-value c = nothing_read c.args.bytes.now (λ i. omega (arith, c.type_inv.bytes i)) (rw c.in-Err-Fault.field-0-is at c.in-Err-Fault.ensures.only)
