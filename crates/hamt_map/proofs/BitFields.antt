@@ -65,7 +65,7 @@ set_bits_within (suc d) (suc n) le =
 next_power : (k : ℕ) → 2 ^ (k + 1) ≡ 2 ^ k * 2
 next_power k = pow-add 2 k 1
 
-shifted_bits : (k : ℕ) (groups : List Pairs) → bits_from (k + 1) groups ≡ bits_from k groups * 2
+pub shifted_bits : (k : ℕ) (groups : List Pairs) → bits_from (k + 1) groups ≡ bits_from k groups * 2
 shifted_bits k [] = refl
 shifted_bits k (g ∷ groups) =
     let rest = shifted_bits (k + 1) groups in

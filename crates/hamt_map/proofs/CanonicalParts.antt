@@ -3,20 +3,23 @@ use Rattle.std.proofs.Common.{◌≡◌, ◌≢◌, ℕ, zero, suc, ◌+◌, ◌
 use Rattle.std.proofs.lemmas.Bool.{eqb-true, eqb-false, ne_eqb}
 use Rattle.std.proofs.lemmas.Bool.Decides.{eqb_tells, nat_tests}
 use Rattle.std.proofs.lemmas.List.{get_or-set_other, length-set, same_lists}
-use Rattle.std.proofs.lemmas.List.Elements.{filter-append}
+use Rattle.std.proofs.lemmas.List.Elements.{All-append, All-nil, filter-append}
 use Rattle.std.proofs.lemmas.Grind.{get_or-set_at}
 use Rattle.std.proofs.Math.Nat.{pow-le-pow_right}
 use Rattle.std.specs.Prelude.{IfSome, nat_lt}
 use Rattle.std.specs.List.{AllByRecursion, flat_map, range_with_len}
 use Rattle.std.specs.FinMap.{entries}
+use Rattle.cid_core.specs.BlockParts.{BlockParts, found}
 use Rattle.dag_cbor.specs.declared.value.Value.{Value}
-use Rattle.hamt_map.specs.Canonical.{PointsTo, StandIn, map_of, with_place}
-use Rattle.hamt_map.specs.Groups.{bits_from, by_place, is_group, pointer_to, pointers_of}
+use Rattle.hamt_map.specs.Canonical.{map_of, with_place}
+use Rattle.hamt_map.specs.Groups.{bits_from, by_place, is_group, nodes_of, nodes_under, pointer_to, pointers_of}
+use Rattle.hamt_map.specs.Kept.{AreHeld}
 use Rattle.hamt_map.specs.Pairs.{Pairs, at_place, place_on}
+use Rattle.hamt_map.specs.WalkedPairs.{PointsTo, StandIn}
 use Rattle.hamt_map.proofs.Grouping.{group_at}
 use Rattle.hamt_map.proofs.Held.{entries-empty}
 use Rattle.hamt_map.proofs.MapParts.{at_place_map}
-use Rattle.hamt_map.proofs.NodeParts.{one_pointer, some_test}
+use Rattle.hamt_map.proofs.NodeParts.{no_nodes, one_pointer, some_test}
 use Rattle.hamt_map.proofs.ReadAgain.{same_test}
 
 -- ---- groups of which one is filled
@@ -163,18 +166,40 @@ none_stands : (below : ℕ) (es : Pairs) → es ≡ [] → (flat_map (pointers_o
 unfolding pointers_of
 none_stands below es none = subst (λ (es : Pairs). (flat_map (pointers_of below) (by_place (51 - below) es) ≡ []) × (bits_from 0 (by_place (51 - below) es) ≡ 0)) (sym none) (refl, refl)
 
-pub stand_begin : (below : ℕ) → StandIn below [] [] 0
-stand_begin below =
-    let none = none_stands below (entries (map_of [])) entries-empty in
-    record { same = none.0; field = none.1; behind = λ k small. refl; once = sym (ap length entries-empty) }
+nothing_under : (below : ℕ) → nodes_under below [] ≡ []
+unfolding nodes_of nodes_under
+nothing_under zero = refl
+nothing_under (suc below) = refl
 
-stand_more : (below : ℕ) (ps gs : Pairs) (vs : List Value) (v : Value) (bits place : ℕ) → StandIn below ps vs bits → PointsTo below gs v place → bits < 2 ^ place → StandIn below (ps ++ gs) (vs ++ v ∷ []) (bits + 2 ^ place)
-stand_more below ps gs vs v bits place stand points above =
+-- the nodes under one group more are those of the group
+under_more : (below place : ℕ) (ps gs : Pairs) → place < 32 → at_place (51 - below) place ps ≡ [] → AreAt (51 - below) place gs → EmptyFrom place (by_place (51 - below) (entries (map_of ps)))
+    → nodes_under below (entries (map_of (ps ++ gs))) ≡ nodes_under below (entries (map_of ps)) ++ nodes_of below (entries (map_of gs))
+unfolding nodes_under
+under_more below place ps gs small none there empty =
+    ap (flat_map (nodes_of below)) (by_place_more (51 - below) place ps gs small none there)
+    ∙ flat_set (nodes_of below) (no_nodes below [] refl) (by_place (51 - below) (entries (map_of ps))) place (entries (map_of gs)) small empty
+
+pub stand_begin : (held : List BlockParts) (below : ℕ) → StandIn held below [] [] 0
+stand_begin held below =
+    let none = none_stands below (entries (map_of [])) entries-empty in
+    record {
+      same = none.0;
+      field = none.1;
+      behind = λ k small. refl;
+      once = sym (ap length entries-empty);
+      nodes = subst (AreHeld held) (sym (ap (nodes_under below) entries-empty ∙ nothing_under below)) (All-nil (λ b. found held b.cid ≡ Some b));
+    }
+
+stand_more : (held : List BlockParts) (below : ℕ) (ps gs : Pairs) (vs : List Value) (v : Value) (bits place : ℕ) → StandIn held below ps vs bits → PointsTo held below gs v place → bits < 2 ^ place
+    → StandIn held below (ps ++ gs) (vs ++ v ∷ []) (bits + 2 ^ place)
+stand_more held below ps gs vs v bits place stand points above =
     record {
       same = ap (flat_map (pointers_of below)) grown ∙ flat_set (pointers_of below) (nothing_at below) old place own points.small empty ∙ (λ i. stand.same i ++ pointer i);
       field = ap (bits_from 0) grown ∙ bits_set 0 old place own points.small (some_test (length own) some) empty ∙ (let e : 2 ^ (0 + place) ≡ 2 ^ place = ap (λ (k : ℕ). 2 ^ k) (let z : 0 + place ≡ place = omega arith in z) in let f = stand.field in omega (arith, e, f));
       behind = behind;
       once = once;
+      nodes = subst (AreHeld held) (sym (under_more below place ps gs points.small (stand.behind place above) points.there empty))
+          (All-append (λ b. found held b.cid ≡ Some b) (nodes_under below (entries (map_of ps))) (nodes_of below own) stand.nodes points.nodes);
     } where
       old : List Pairs
       old = by_place (51 - below) (entries (map_of ps))
@@ -218,11 +243,12 @@ pub nat_lt_true : (a b : ℕ) → nat_lt a b ≡ true → a < b
 nat_lt_true a b e = grind (arith, nat_tests)
 
 -- one more pointer
-pub stand_with : (below : ℕ) (ps gs : Pairs) (vs : List Value) (v : Value) (places place : Option ℕ) → IfSome places (StandIn below ps vs) → IfSome place (PointsTo below gs v) → IfSome (with_place places place) (StandIn below (ps ++ gs) (vs ++ v ∷ []))
-stand_with below ps gs vs v None place stand points = tt
-stand_with below ps gs vs v (Some bits) None stand points = tt
-stand_with below ps gs vs v (Some bits) (Some place) stand points =
-    elim (nat_lt bits (2 ^ place)) as (λ b. nat_lt bits (2 ^ place) ≡ b → IfSome (cond b (Some (bits + 2 ^ place)) None) (StandIn below (ps ++ gs) (vs ++ v ∷ []))) [
-      | true ↦ λ less. stand_more below ps gs vs v bits place stand points (nat_lt_true bits (2 ^ place) less)
+pub stand_with : (held : List BlockParts) (below : ℕ) (ps gs : Pairs) (vs : List Value) (v : Value) (places place : Option ℕ) → IfSome places (StandIn held below ps vs) → IfSome place (PointsTo held below gs v)
+    → IfSome (with_place places place) (StandIn held below (ps ++ gs) (vs ++ v ∷ []))
+stand_with held below ps gs vs v None place stand points = tt
+stand_with held below ps gs vs v (Some bits) None stand points = tt
+stand_with held below ps gs vs v (Some bits) (Some place) stand points =
+    elim (nat_lt bits (2 ^ place)) as (λ b. nat_lt bits (2 ^ place) ≡ b → IfSome (cond b (Some (bits + 2 ^ place)) None) (StandIn held below (ps ++ gs) (vs ++ v ∷ []))) [
+      | true ↦ λ less. stand_more held below ps gs vs v bits place stand points (nat_lt_true bits (2 ^ place) less)
       | false ↦ λ more. tt
     ] refl

@@ -28,3 +28,6 @@ one_deeper (suc d) x h = weaker_layer (IsPlain d) (IsPlain (suc d)) (one_deeper 
 
 pub four_deeper : (d : ℕ) (x : Value) → IsPlain d x → IsPlain (suc (suc (suc (suc d)))) x
 four_deeper d x h = one_deeper (suc (suc (suc d))) x (one_deeper (suc (suc d)) x (one_deeper (suc d) x (one_deeper d x h)))
+
+pub two_deeper : (d : ℕ) (x : Value) → IsPlain d x → IsPlain (suc (suc d)) x
+two_deeper d x h = one_deeper (suc d) x (one_deeper d x h)

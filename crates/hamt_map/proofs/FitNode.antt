@@ -42,7 +42,7 @@ pairs_plain (p ∷ pairs) values keys =
     All-cons (IsPlain 125) (pair_value p) (map pair_value pairs) (plain_pair p.0 p.1 (All-head (λ q. length q.0 < 2 ^ 64) p pairs keys) (All-head (λ q. IsPlain 124 q.1) p pairs values))
     (pairs_plain pairs (All-tail (λ q. IsPlain 124 q.1) p pairs values) (All-tail (λ q. length q.0 < 2 ^ 64) p pairs keys))
 
-bucket_plain : (pairs : Pairs) → Fits pairs → IsPlain 126 (bucket pairs)
+pub bucket_plain : (pairs : Pairs) → Fits pairs → IsPlain 126 (bucket pairs)
 bucket_plain pairs fits = plain_bucket (map pair_value pairs) (let few = fits.count in omega (arith, length-map pairs pair_value, few)) (pairs_plain pairs fits.values fits.keys)
 
 pointer_plain : (below : ℕ) (group : Pairs) → Fits group → IsPlain 126 (pointer_to below group)
@@ -76,7 +76,7 @@ one_at_most : (below : ℕ) (group : Pairs) → length (pointers_of below group)
 unfolding pointers_of
 one_at_most below group = elim (is_group group) as (λ b. length (cond b (pointer_to below group ∷ []) []) ≤ 1) [ true ↦ omega arith | false ↦ omega arith ]
 
-few_pointers : (below : ℕ) (groups : List Pairs) → length (flat_map (pointers_of below) groups) ≤ length groups
+pub few_pointers : (below : ℕ) (groups : List Pairs) → length (flat_map (pointers_of below) groups) ≤ length groups
 few_pointers below [] = omega arith
 few_pointers below (g ∷ groups) =
     let rest = few_pointers below groups in

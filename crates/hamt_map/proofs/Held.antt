@@ -72,7 +72,7 @@ fit_remove q (e ∷ es) fit =
     ]
 
 -- what is found fits into a node
-fit_found : (q : List ℕ) (es : Pairs) (x : Value) → FitNodes es → find key_cmp q es ≡ Some x → IsPlain 124 x
+pub fit_found : (q : List ℕ) (es : Pairs) (x : Value) → FitNodes es → find key_cmp q es ≡ Some x → IsPlain 124 x
 fit_found q [] x fit found = absurd (subst T (ap is_some (sym found)) tt)
 fit_found q (e ∷ es) x fit found =
     elim (eq_by_cmp key_cmp q e.0) as (λ b. cond b (Some e.1) (find key_cmp q es) ≡ Some x → IsPlain 124 x) [
@@ -137,7 +137,7 @@ contains-Holds pairs m q found is held = is ∙ ap is_some (find-Holds pairs m q
 
 -- ---- reading a value
 
-spelling_from : (o : Option Value) (s : List ℕ) → Some s ≡ option_map spelled o → (x : Value) × (o ≡ Some x) × (s ≡ spelled x)
+pub spelling_from : (o : Option Value) (s : List ℕ) → Some s ≡ option_map spelled o → (x : Value) × (o ≡ Some x) × (s ≡ spelled x)
 spelling_from None s is = absurd (subst T (ap is_some is) tt)
 spelling_from (Some x) s is = (x, refl, cc)
 
@@ -146,7 +146,7 @@ found-Holds pairs m q s held is =
     let there = spelling_from (get m q) s (sym is ∙ find-Holds pairs m q held) in
     (there.0, there.1, fit_found q (entries m) there.0 held.fit (sym (finmap.get-entries m q) ∙ there.1), there.2)
 
-none_from : (o : Option Value) → None ≡ option_map spelled o → None ≡ o
+pub none_from : (o : Option Value) → None ≡ option_map spelled o → None ≡ o
 none_from None is = refl
 none_from (Some x) is = absurd (subst T (ap is_some (sym is)) tt)
 
@@ -222,7 +222,7 @@ tied_from Less is = absurd (subst T (sym is) tt)
 tied_from Equal is = refl
 tied_from Greater is = absurd (subst T (sym is) tt)
 
-tied_same : (q k : List ℕ) → eq_by_cmp key_cmp q k ≡ true → q ≡ k
+pub tied_same : (q k : List ℕ) → eq_by_cmp key_cmp q k ≡ true → q ≡ k
 tied_same q k tied = key_cmp_same q k (tied_from _ tied)
 
 two_tests : {A : Type 0} (s t : Bool) (x y z : A) → (s ≡ true → t ≡ true → ⊥) → cond s x (cond t y z) ≡ cond t y (cond s x z)

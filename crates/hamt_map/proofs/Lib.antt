@@ -11,14 +11,34 @@ mod BitFields
 mod PlacedPairs
 mod ReadAgain
 pub mod FitNode
-mod PlainParts
+mod FrontHeads
+mod Fronts
 mod NodeForm
 mod WholeValues
+mod ReadParts
 mod WalkSteps
 pub mod LoadedAgain
 mod MapParts
+mod Over
+mod UnderRoot
 mod CanonicalParts
 mod Putting
 mod LeafLists
 mod Judged
 mod StateValues
+mod InOrder
+mod AnyOrder
+mod HashNumbers
+mod PointerSteps
+mod LowBits
+mod LentPairs
+mod PutAgain
+mod GroupSteps
+mod BucketSteps
+pub mod AheadSteps
+mod Omitting
+mod OverPlaces
+mod OverGroups
+mod OverTrees
+mod BucketPairs
+mod FoundUnder

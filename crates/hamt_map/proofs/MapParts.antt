@@ -1,9 +1,9 @@
 -- The map of pairs, of which the first at a key counts.
-use Rattle.std.proofs.Common.{◌≡◌, ℕ, cond, eqb, List, [], ◌∷◌, ◌++◌, ◌&&◌, Option, Some, None, refl, sym, ap, ◌∙◌}
+use Rattle.std.proofs.Common.{◌≡◌, ℕ, cond, eqb, List, [], ◌∷◌, ◌++◌, ◌&&◌, Option, None, refl, sym, ap, ◌∙◌}
 use Rattle.std.specs.Prelude.{T}
 use Rattle.std.specs.Cmp.Lexicographic.{nat_list_cmp_total}
 use Rattle.std.specs.FinMap as finmap
-use Rattle.std.specs.FinMap.{entries, from_entries}
+use Rattle.std.specs.FinMap.{entries}
 use Rattle.std.specs.FinMap.Entries.{below_all, find, is_sorted, same_entries}
 use Rattle.std.specs.Ordering.{is_lt}
 use Rattle.dag_cbor.specs.declared.value.Value.{Value}
@@ -14,7 +14,7 @@ use Rattle.hamt_map.proofs.Held.{key_cmp_same}
 use Rattle.hamt_map.proofs.Merging.{or_else, find_both}
 use Rattle.hamt_map.proofs.PlacedPairs.{find_at_place, sorted_at}
 
-find_in_map : (pairs : Pairs) (q : List ℕ) → find key_cmp q (entries (map_of pairs)) ≡ find key_cmp q pairs
+pub find_in_map : (pairs : Pairs) (q : List ℕ) → find key_cmp q (entries (map_of pairs)) ≡ find key_cmp q pairs
 find_in_map pairs q = sym (finmap.get-entries (map_of pairs) q) ∙ finmap.get-from_entries nat_list_cmp_total pairs q
 
 found_alike : (a b : Pairs) → map_of a ≡ map_of b → (q : List ℕ) → find key_cmp q a ≡ find key_cmp q b

@@ -1,6 +1,6 @@
 -- Pairs that are put into a map: the first value of a key counts.
-use Rattle.std.proofs.Common.{◌≡◌, ℕ, List, [], ◌∷◌, ◌++◌, true, false, cond, Option, Some, None, All, refl, sym, ap, subst, ◌∙◌, append_assoc}
-use Rattle.std.proofs.lemmas.List.{append-nil}
+use Rattle.std.proofs.Common.{◌≡◌, ℕ, zero, suc, ◌+◌, ◌-◌, ◌<◌, ◌≤◌, List, [], ◌∷◌, ◌++◌, true, false, cond, get_or, length, take, Option, Some, None, All, refl, sym, ap, subst, ◌∙◌, append_assoc, arith}
+use Rattle.std.proofs.lemmas.List.{append-nil, take_more}
 use Rattle.std.proofs.lemmas.List.Elements.{All-cons, All-head, All-nil, All-tail}
 use Rattle.std.specs.FinMap.{empty, from_entries}
 use Rattle.std.specs.FinMap.Entries.{find, put}
@@ -79,6 +79,16 @@ taken_more all left rest pairs after s is so_far put_is =
       held = Holds-insert pairs after (from_entries so_far.back) s.0 last.1 so_far.held (All-head (λ p. IsPlain 124 p.1) (s.0, last.1) [] (all_back (λ p. IsPlain 124 p.1) last.0 ((s.0, last.1) ∷ []) fits))
           (put_is ∙ ap (λ (t : List ℕ). put key_cmp s.0 t pairs) last.4);
     }
+
+-- the last of those that are left is taken
+pub taken_next : (all : Pairs) (xs pairs after : List (List ℕ × List ℕ)) (n : ℕ) (s : List ℕ × List ℕ) → 0 < n → n ≤ length xs → s ≡ get_or xs (n - 1) s → TakenBack all (take n xs) pairs → after ≡ put key_cmp s.0 s.1 pairs → TakenBack all (take (n - 1) xs) after
+taken_next all xs pairs after zero s some within is so_far put_is = absurd (omega arith)
+taken_next all xs pairs after (suc i) s some within is so_far put_is =
+    let less : suc i - 1 ≡ i = omega arith in
+    let more : suc i ≡ i + 1 = omega arith in
+    let at : s ≡ get_or xs i s = is ∙ ap (λ (k : ℕ). get_or xs k s) less in
+    subst (λ (k : ℕ). TakenBack all (take k xs) after) (sym less)
+    (taken_more all (take (suc i) xs) (take i xs) pairs after s (ap (λ (k : ℕ). take k xs) more ∙ take_more xs i s (omega (arith, within)) ∙ ap (λ z. take i xs ++ z ∷ []) (sym at)) so_far put_is)
 
 pub taken_end : (all : Pairs) (left pairs : List (List ℕ × List ℕ)) → left ≡ [] → TakenBack all left pairs → Holds pairs (from_entries all)
 taken_end all left pairs none so_far = by so_far.front (sym none ∙ so_far.same) so_far.whole where

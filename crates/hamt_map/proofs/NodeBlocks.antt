@@ -1,9 +1,11 @@
 -- The blocks of a tree's nodes.
-use Rattle.std.proofs.Common.{ℕ, zero, suc, ◌-◌, List, [], ◌∷◌, true, false, cond, refl}
+use Rattle.std.proofs.Common.{◌≡◌, ℕ, zero, suc, ◌-◌, List, [], ◌∷◌, true, false, cond, refl, sym, subst}
 use Rattle.std.proofs.lemmas.List.Elements.{All-append, All-cons, All-nil}
-use Rattle.std.specs.Prelude.{All}
+use Rattle.std.specs.Prelude.{All, OnOk}
+use Rattle.std.specs.declared.result.Result.{Result}
+use Rattle.std.specs.declared.result.Result.TheVariants.{Ok, Err}
 use Rattle.std.specs.List.{flat_map}
-use Rattle.cid_core.specs.BlockParts.{BlockParts}
+use Rattle.cid_core.specs.BlockParts.{BlockParts, block_of}
 use Rattle.tree_blocks.specs.NewBlocks.{IsNodeBlock}
 use Rattle.hamt_map.specs.Node.{groups, is_small, node_block, nodes}
 use Rattle.hamt_map.specs.Pairs.{Pairs}
@@ -19,3 +21,12 @@ nodes_own (suc below) pairs =
     All-append IsNodeBlock _ (node_block (suc below) pairs ∷ [])
     (all_flat (λ g. cond (is_small g.1) [] (nodes below g.1)) (λ g. elim (is_small g.1) as (λ b. All IsNodeBlock (cond b [] (nodes below g.1))) [ true ↦ All-nil IsNodeBlock | false ↦ nodes_own below g.1 ]) (groups (50 - below) pairs))
     (All-cons IsNodeBlock (node_block (suc below) pairs) [] (record { cid = refl }) (All-nil IsNodeBlock))
+
+-- a block of bytes in DAG-CBOR
+pub own_node : (b : BlockParts) (bytes : List ℕ) → b ≡ block_of 0x71 bytes → IsNodeBlock b
+own_node b bytes is = subst IsNodeBlock (sym is) (record { cid = refl })
+
+-- what holds anyway
+pub on_ok_from : {A E : Type 0} (r : Result A E) {P : Type 0} → P → OnOk r P
+on_ok_from (Ok x) p = p
+on_ok_from (Err e) p = tt

@@ -1,20 +1,15 @@
 -- A node by its parts, as the code builds it.
-use Rattle.std.proofs.Common.{◌≡◌, ℕ, zero, suc, ◌+◌, ◌-◌, ◌^◌, ◌<◌, ◌≤◌, ◌⊎◌, inl, inr, true, false, cond, List, [], ◌∷◌, ◌++◌, length, map, sum, refl, sym, ap, subst, ◌∙◌, append_assoc, arith, rules}
-use Rattle.std.proofs.lemmas.List.{append-nil, get_or-map, length-map, map-append}
-use Rattle.std.proofs.lemmas.Grind.{flat_map-append}
+use Rattle.std.proofs.Common.{◌≡◌, ℕ, zero, suc, ◌+◌, ◌-◌, ◌^◌, ◌<◌, ◌≤◌, ◌⊎◌, inl, inr, true, false, cond, List, [], ◌∷◌, ◌++◌, length, map, sum, refl, sym, ap, ◌∙◌, arith, rules}
 use Rattle.std.proofs.lemmas.List.Sums.{sum_by-cons}
-use Rattle.std.proofs.lemmas.List.Elements.{All-map, All-filter}
 use Rattle.std.specs.List.{flat_map, filter, range_with_len}
-use Rattle.std.specs.Prelude.{All, nat_le, nat_lt}
+use Rattle.std.specs.Prelude.{nat_le, nat_lt}
 use Rattle.std.specs.Int.Digits.{digits_of}
 use Rattle.cid_core.specs.BlockParts.{BlockParts}
 use Rattle.dag_cbor.specs.declared.value.Value.{Value}
 use Rattle.dag_cbor.specs.declared.value.Value.TheVariants as v
-use Rattle.dag_cbor.specs.Plain.{IsPlain}
 use Rattle.hamt_map.specs.Pairs.{Pairs, at_place}
 use Rattle.hamt_map.specs.Node.{bitfield, bucket, groups, is_small, node, node_block, node_with, nodes, places}
 use Rattle.hamt_map.specs.Groups.{bits_from, by_place, is_group, nodes_of, nodes_under, pointer_to, pointers_of}
-use Rattle.hamt_map.specs.Holds.{FitNodes}
 use Rattle.hamt_map.specs.Canonical.{node_of}
 
 -- ---- one group
@@ -154,26 +149,3 @@ great_nodes_are below group some great = great_nodes below group some great ∙ 
 pub put_below : (below : ℕ) (pairs : Pairs) (start now : List BlockParts) → now ≡ start ++ flat_map (nodes_of below) (by_place (51 - below) pairs) → now ≡ start ++ nodes_under below pairs
 unfolding nodes_under
 put_below below pairs start now is = is
-
--- ---- what fits
-
-pub groups_fit : {G : Type 0} (f : G → Pairs) (gs : List G) (level : ℕ) (pairs : Pairs) → map f gs ≡ by_place level pairs → FitNodes pairs → All (λ g. FitNodes (f g)) gs
-groups_fit f gs level pairs is fit = All-unmap f gs (subst (All FitNodes) (sym is) (All-map FitNodes (λ place. at_place level place pairs) places (λ k d within. All-filter _ (λ p. IsPlain 124 p.1) pairs fit))) where
-  All-unmap : {G : Type 0} (f : G → Pairs) (gs : List G) → All FitNodes (map f gs) → All (λ g. FitNodes (f g)) gs
-  All-unmap f gs all = λ k d within. subst FitNodes (get_or-map f gs k d (f d) within) (all k (f d) (omega (arith, length-map gs f)))
-
--- ---- steps
-
--- what is put for one more group
-pub flat_more : {G A : Type 0} (f : G → Pairs) (h : Pairs → List A) (start now next : List A) (gs : List G) (g : G) → now ≡ start ++ flat_map h (map f gs) → next ≡ now ++ h (f g) → next ≡ start ++ flat_map h (map f (gs ++ g ∷ []))
-flat_more f h start now next gs g so_far is =
-    is ∙ ap (λ xs. xs ++ h (f g)) so_far ∙ append_assoc start (flat_map h (map f gs)) (h (f g))
-    ∙ ap (λ xs. start ++ xs) (sym (ap (flat_map h) (map-append f gs (g ∷ [])) ∙ flat_map-append h (map f gs) (f g ∷ []) ∙ ap (λ xs. flat_map h (map f gs) ++ xs) (append-nil (h (f g)))))
-
--- what is pushed for one more pair
-pub map_more : {X Y : Type 0} (f : X → Y) (done : List X) (now next : List Y) (x : X) (y : Y) → now ≡ map f done → y ≡ f x → next ≡ now ++ y ∷ [] → next ≡ map f (done ++ x ∷ [])
-map_more f done now next x y so_far is pushed = pushed ∙ (λ i. so_far i ++ is i ∷ []) ∙ sym (map-append f done (x ∷ []))
-
--- what is pushed is the pointer of a group
-pub pushed_pointer : (below : ℕ) (group : Pairs) (now next : List Value) (pointer : Value) → 0 < length group → pointer ≡ pointer_to below group → next ≡ now ++ pointer ∷ [] → next ≡ now ++ pointers_of below group
-pushed_pointer below group now next pointer some is pushed = pushed ∙ ap (λ p. now ++ p ∷ []) is ∙ ap (λ xs. now ++ xs) (sym (one_pointer below group some))

@@ -26,13 +26,13 @@ low_bits number window shift small =
     ∙ ap (λ (p : ℕ). (window / 2 ^ shift + p) % 32) (sym (mul_assoc number scale 32))
     ∙ add-mul-mod_self_right (window / 2 ^ shift) (number * scale) 32
 
-pow-256 : (n : ℕ) → 256 ^ n ≡ 2 ^ (n * 8)
+pub pow-256 : (n : ℕ) → 256 ^ n ≡ 2 ^ (n * 8)
 pow-256 zero = refl
 pow-256 (suc n) =
     let more : suc n * 8 ≡ n * 8 + 8 = omega arith in
     pow-suc 256 n ∙ ap (λ (p : ℕ). p * 256) (pow-256 n) ∙ sym (pow-add 2 (n * 8) 8) ∙ ap (λ (k : ℕ). 2 ^ k) (sym more)
 
-all_below_drop : (n : ℕ) (ds : List ℕ) → AllBelowBase 256 ds → AllBelowBase 256 (drop n ds)
+pub all_below_drop : (n : ℕ) (ds : List ℕ) → AllBelowBase 256 ds → AllBelowBase 256 (drop n ds)
 all_below_drop zero ds below = below
 all_below_drop (suc n) [] below = below
 all_below_drop (suc n) (d ∷ ds) below = all_below_drop n ds below.1

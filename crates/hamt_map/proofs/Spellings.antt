@@ -63,18 +63,15 @@ module _ {K X Y : Type 0} (key : K → List ℕ) (bytes : X → Y) where
       let rest = shown-clone R same es fs zip.1 in
       λ i. (here.0 i, here.1 i) ∷ rest i
 
-  pub is_some-shown : (q : List ℕ) (es : List (K × X)) (view : List (List ℕ × Y)) → shown es ≡ view → is_some (lookup (λ a. is_eq (key_cmp q (key a))) es) ≡ is_some (find key_cmp q view)
-  is_some-shown q es view is = sym (is_some-map bytes (lookup (λ a. is_eq (key_cmp q (key a))) es)) ∙ ap is_some (sym (find-shown q es) ∙ ap (find key_cmp q) is)
-
-both_first : (a b : Bool) → T (a && b) → T a
+pub both_first : (a b : Bool) → T (a && b) → T a
 both_first true b h = tt
 both_first false b h = h
 
-both_second : (a b : Bool) → T (a && b) → T b
+pub both_second : (a b : Bool) → T (a && b) → T b
 both_second true b h = h
 both_second false b h = absurd h
 
-less_from : (o : Ordering) → T (is_lt o) → o ≡ Less
+pub less_from : (o : Ordering) → T (is_lt o) → o ≡ Less
 less_from Less h = refl
 less_from Equal h = absurd h
 less_from Greater h = absurd h

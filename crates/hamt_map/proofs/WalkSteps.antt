@@ -1,30 +1,36 @@
 -- Steps of walking a tree.
-use Rattle.std.proofs.Common.{◌≡◌, ℕ, zero, suc, ◌-◌, true, false, cond, List, [], ◌∷◌, ◌++◌, length, map, take, drop, Option, Some, None, Ok, Err, Result, IfErr, IsErrAnd, OnOk, arith, subst, refl, sym, ap, ◌∙◌}
+use Rattle.std.proofs.Common.{◌≡◌, ℕ, zero, suc, ◌-◌, true, false, cond, List, [], ◌∷◌, ◌++◌, length, map, take, drop, Option, Some, None, Ok, Err, Result, Bool, IfErr, IfOk, IsErrAnd, arith, subst, refl, sym, ap, ◌∙◌}
 use Rattle.std.proofs.Math.Seq.{drop-append_seam, take-append_seam}
 use Rattle.std.proofs.lemmas.Bool.Decides.{nat_tests}
-use Rattle.std.proofs.lemmas.Result.{on_ok_weaker}
-use Rattle.std.specs.Prelude.{IfSome, nat_eq}
+use Rattle.std.proofs.lemmas.Result.{IfOk-weaker}
+use Rattle.std.specs.Prelude.{IfSome, T, nat_eq}
 use Rattle.std.specs.Cmp.Lexicographic.{same_text}
+use Rattle.std.proofs.lemmas.List.Elements.{All-head, All-tail}
 use Rattle.std.specs.FinMap.{entries, from_entries}
+use Rattle.std.specs.FinMap.Entries.{put}
 use Rattle.fil_base.specs.CidEquality.{same_parts}
 use Rattle.fil_base.specs.CidParts.{CidParts}
 use Rattle.fil_base.specs.Failure.{IfFault}
 use Rattle.fil_base.specs.declared.failure.Failure.{Failure}
 use Rattle.fil_base.specs.declared.failure.Failure.TheVariants as failures
 use Rattle.cid_core.specs.BlockParts.{BlockParts, found}
+use Rattle.dag_cbor.specs.Plain.{IsPlain}
 use Rattle.dag_cbor.specs.Spelling.{spelled}
 use Rattle.dag_cbor.specs.declared.value.Value.TheVariants as v
-use Rattle.hamt_map.specs.Pairs.{Map, Pairs}
-use Rattle.hamt_map.specs.Canonical.{ArePointersPut, ArePut, IsPointerPut, IsRead, PointsTo, child_place, map_of, node_of, pointer_value}
+use Rattle.hamt_map.specs.Pairs.{Map, Pairs, key_cmp}
+use Rattle.hamt_map.specs.Canonical.{ArePut, child_place, map_of, node_of, pointer_value}
+use Rattle.hamt_map.specs.Kept.{IsJudged}
 use Rattle.hamt_map.specs.Loading.{AreFound, IsFaultOf, gathered_map, walk_child}
 use Rattle.hamt_map.specs.Holds.{FitNodes, Holds, spellings}
 use Rattle.hamt_map.specs.Node.{node_block}
 use Rattle.hamt_map.specs.ReadPointers.{IsNodeIn}
 use Rattle.tree_blocks.specs.Judging.{if_ok, same_block}
 use Rattle.hamt_map.specs.Walk.{Pointer, Child, gathered, judged, node_in, walk, walked}
+use Rattle.hamt_map.specs.WalkedPairs.{ArePointersPut, IsPointerPut, IsRead, IsTreePut, PointsTo}
 use Rattle.hamt_map.specs.declared.node_form.ReadNode.{ReadNode}
 use Rattle.tree_blocks.specs.declared.fault.TreeFault.{TreeFault}
 use Rattle.tree_blocks.specs.declared.fault.TreeFault.TheVariants.{Missing, Form, NotCanonical}
+use Rattle.hamt_map.proofs.Held.{Holds-empty, Holds-insert}
 use Rattle.hamt_map.proofs.LeafLists.{first_true, second_true}
 use Rattle.hamt_map.proofs.Putting.{child_points}
 
@@ -78,39 +84,6 @@ judged_below : (blocks : List BlockParts) (below : ℕ) (cid : CidParts) (b : Bl
     → gathered_map (walk_child blocks below) those ≡ Ok m → walk blocks below cid ≡ judged below b m
 judged_below blocks below cid b those m node gather = is_judged blocks below cid b those node ∙ ap (λ (r : Result Map TreeFault). if_ok r (judged below b)) gather
 
--- what was put under a node was read under it
-was_read : (below : ℕ) (child : CidParts → Result Map TreeFault) (b : BlockParts) (node : ReadNode) (those : List Pointer) (old new : List (List ℕ × List ℕ)) (start : ℕ) (places : Option ℕ)
-    → b.bytes ≡ spelled (node_of node.bits (map pointer_value those)) → (put : ArePointersPut child below those old new places) → start ≡ length old → IsRead below b node.bits places (drop start new) (map_of put.pairs)
-was_read below child b node those old new start places spells put at = record {
-  pairs = put.pairs;
-  pointers = map pointer_value those;
-  same = (λ i. drop (at i) (put.put i)) ∙ drop-append_seam old (spellings put.pairs);
-  fit = put.fit;
-  map = refl;
-  bytes = spells;
-  canonical = put.canonical;
-}
-
-front_kept : (old new more : List (List ℕ × List ℕ)) (start : ℕ) → new ≡ old ++ more → start ≡ length old → take start new ≡ old
-front_kept old new more start put at = (λ i. take (at i) (put i)) ∙ take-append_seam old more
-
-pub judged_found : {X E : Type 0} (blocks : List BlockParts) (below : ℕ) (cid : CidParts) (b : BlockParts) (node : ReadNode) (those : List Pointer) (old new after : List (List ℕ × List ℕ)) (start : ℕ) (places : Option ℕ) (r : Result X E)
-    → Some b ≡ found blocks cid → node_in below b.bytes ≡ Some those → IsNodeIn b.bytes node those → ArePointersPut (walk_child blocks below) below those old new places → start ≡ length old
-    → ((m : Map) → IsRead below b node.bits places (drop start new) m → OnOk r (ArePut (judged below b m) (take start new) after)) → OnOk r (ArePut (walk blocks below cid) old after)
-judged_found blocks below cid b node those old new after start places r block reads is put at judges =
-    on_ok_weaker r (λ good. subst (λ (w : Result Map TreeFault). ArePut w old after) (sym (judged_below blocks below cid b those (map_of put.pairs) (record { block = block; pointers = reads }) put.walk))
-    (subst (λ (front : List (List ℕ × List ℕ)). ArePut (judged below b (map_of put.pairs)) front after) (front_kept old new (spellings put.pairs) start put.put at) good))
-    (judges (map_of put.pairs) (was_read below (walk_child blocks below) b node those old new start places is.whole put at))
-
-pub judged_fault : {X : Type 0} (blocks : List BlockParts) (below : ℕ) (cid : CidParts) (b : BlockParts) (node : ReadNode) (those : List Pointer) (old new : List (List ℕ × List ℕ)) (start : ℕ) (places : Option ℕ) (r : Result X (Failure TreeFault))
-    → Some b ≡ found blocks cid → node_in below b.bytes ≡ Some those → IsNodeIn b.bytes node those → ArePointersPut (walk_child blocks below) below those old new places → start ≡ length old
-    → ((m : Map) → IsRead below b node.bits places (drop start new) m → IfErr r (IsFaultOf (judged below b m))) → IfErr r (IsFaultOf (walk blocks below cid))
-judged_fault blocks below cid b node those old new start places (Ok x) block reads is put at judges = tt
-judged_fault blocks below cid b node those old new start places (Err failures.NoMemory) block reads is put at judges = tt
-judged_fault blocks below cid b node those old new start places (Err (failures.Fault f)) block reads is put at judges =
-    judged_below blocks below cid b those (map_of put.pairs) (record { block = block; pointers = reads }) put.walk
-    ∙ judges (map_of put.pairs) (was_read below (walk_child blocks below) b node those old new start places is.whole put at)
-
 -- ---- the CID of a node that was walked
 
 same_number : (x y : ℕ) → nat_eq x y ≡ true → x ≡ y
@@ -159,16 +132,65 @@ walk_named blocks below cid m e = by_block (found blocks cid) refl where
   by_block None none = let bad : Err (Missing cid) ≡ Ok m = sym (no_block blocks below cid (sym none)) ∙ e in absurd (cc bad)
   by_block (Some b) block = by_pointers b (node_in below b.bytes) block refl
 
--- what a child gives is put, with its place
-pub child_put : (blocks : List BlockParts) (below : ℕ) (cid : CidParts) (old new : List (List ℕ × List ℕ)) (start : ℕ) (place : Option ℕ) → (below ≡ 0 → ⊥) → ArePut (walk blocks (below - 1) cid) old new → start ≡ length old
-    → place ≡ child_place below (drop start new) → IsPointerPut (walk_child blocks below) below (Child cid) old new place
-child_put blocks below cid old new start place some put at is = record {
+-- ---- what was read and judged
+
+-- what was put under a node was read under it
+was_read : (blocks : List BlockParts) (below : ℕ) (cid : CidParts) (child : CidParts → Result Map TreeFault) (b : BlockParts) (node : ReadNode) (those : List Pointer) (old new : List (List ℕ × List ℕ)) (start : ℕ) (places : Option ℕ)
+    → Some b ≡ found blocks cid → b.bytes ≡ spelled (node_of node.bits.now (map pointer_value those)) → (put : ArePointersPut blocks child below those old new places) → start ≡ length old
+    → IsRead blocks below b node.bits.now places (drop start new) (map_of put.pairs)
+was_read blocks below cid child b node those old new start places block spells put at = record {
   pairs = put.pairs;
-  walk = child_is_walked blocks below cid some ∙ put.walk;
-  put = put.put;
+  pointers = map pointer_value those;
+  same = (λ i. drop (at i) (put.put i)) ∙ drop-append_seam old (spellings put.pairs);
   fit = put.fit;
-  canonical = subst (λ (o : Option ℕ). IfSome o (PointsTo below put.pairs (v.Link cid))) (sym (is ∙ ap (child_place below) ((λ i. drop (at i) (put.put i)) ∙ drop-append_seam old (spellings put.pairs))))
-      (child_points below cid put.pairs (omega (arith, some)) (walk_named blocks (below - 1) cid (map_of put.pairs) put.walk) put.once);
+  map = refl;
+  first = ap (found blocks) (found_named blocks cid b (sym block)) ∙ sym block;
+  bytes = spells;
+  canonical = put.canonical;
+}
+
+front_kept : (old new more : List (List ℕ × List ℕ)) (start : ℕ) → new ≡ old ++ more → start ≡ length old → take start new ≡ old
+front_kept old new more start put at = (λ i. take (at i) (put i)) ∙ take-append_seam old more
+
+pub judged_found : {E : Type 0} (blocks : List BlockParts) (below : ℕ) (cid : CidParts) (b : BlockParts) (node : ReadNode) (those : List Pointer) (old new after : List (List ℕ × List ℕ)) (start : ℕ) (places : Option ℕ) (r : Result Bool E)
+    → Some b ≡ found blocks cid → node_in below b.bytes ≡ Some those → IsNodeIn b.bytes node those → ArePointersPut blocks (walk_child blocks below) below those old new places → start ≡ length old
+    → ((m : Map) → IsRead blocks below b node.bits.now places (drop start new) m → IfOk r (IsTreePut blocks below (judged below b m) (take start new) after)) → IfOk r (IsTreePut blocks below (walk blocks below cid) old after)
+judged_found blocks below cid b node those old new after start places r block reads is put at judges =
+    IfOk-weaker r (IsTreePut blocks below (judged below b (map_of put.pairs)) (take start new) after) (IsTreePut blocks below (walk blocks below cid) old after) (λ by_form good.
+    subst (λ (w : Result Map TreeFault). IsTreePut blocks below w old after by_form) (sym (judged_below blocks below cid b those (map_of put.pairs) (record { block = block; pointers = reads }) put.walk))
+    (subst (λ (front : List (List ℕ × List ℕ)). IsTreePut blocks below (judged below b (map_of put.pairs)) front after by_form) (front_kept old new (spellings put.pairs) start put.put at) good))
+    (judges (map_of put.pairs) (was_read blocks below cid (walk_child blocks below) b node those old new start places block is.whole put at))
+
+pub judged_fault : {X : Type 0} (blocks : List BlockParts) (below : ℕ) (cid : CidParts) (b : BlockParts) (node : ReadNode) (those : List Pointer) (old new : List (List ℕ × List ℕ)) (start : ℕ) (places : Option ℕ) (r : Result X (Failure TreeFault))
+    → Some b ≡ found blocks cid → node_in below b.bytes ≡ Some those → IsNodeIn b.bytes node those → ArePointersPut blocks (walk_child blocks below) below those old new places → start ≡ length old
+    → ((m : Map) → IsRead blocks below b node.bits.now places (drop start new) m → IfErr r (IsFaultOf (judged below b m))) → IfErr r (IsFaultOf (walk blocks below cid))
+judged_fault blocks below cid b node those old new start places (Ok x) block reads is put at judges = tt
+judged_fault blocks below cid b node those old new start places (Err failures.NoMemory) block reads is put at judges = tt
+judged_fault blocks below cid b node those old new start places (Err (failures.Fault f)) block reads is put at judges =
+    judged_below blocks below cid b those (map_of put.pairs) (record { block = block; pointers = reads }) put.walk
+    ∙ judges (map_of put.pairs) (was_read blocks below cid (walk_child blocks below) b node those old new start places block is.whole put at)
+
+-- what a child gives is put, with its place where its nodes all have the form of canonical ones
+pub child_put : (blocks : List BlockParts) (below : ℕ) (cid : CidParts) (old new : List (List ℕ × List ℕ)) (start : ℕ) (place : Option ℕ) (by_form : Bool) → (below ≡ 0 → ⊥) → IsTreePut blocks (below - 1) (walk blocks (below - 1) cid) old new by_form
+    → by_form ≡ true → start ≡ length old → place ≡ child_place below (drop start new) → IsPointerPut blocks (walk_child blocks below) below (Child cid) old new place
+child_put blocks below cid old new start place by_form some tree form at is = record {
+  pairs = tree.put.pairs;
+  walk = child_is_walked blocks below cid some ∙ tree.put.walk;
+  put = tree.put.put;
+  fit = tree.put.fit;
+  canonical = subst (λ (o : Option ℕ). IfSome o (PointsTo blocks below tree.put.pairs (v.Link cid))) (sym (is ∙ ap (child_place below) ((λ i. drop (at i) (tree.put.put i)) ∙ drop-append_seam old (spellings tree.put.pairs))))
+      (child_points blocks below cid tree.put.pairs (omega (arith, some)) (walk_named blocks (below - 1) cid (map_of tree.put.pairs) tree.put.walk) tree.put.once (tree.kept (subst T (sym form) tt)));
+}
+
+-- or else with none
+pub child_put_only : (blocks : List BlockParts) (below : ℕ) (cid : CidParts) (old new : List (List ℕ × List ℕ)) (by_form : Bool) → (below ≡ 0 → ⊥) → IsTreePut blocks (below - 1) (walk blocks (below - 1) cid) old new by_form
+    → IsPointerPut blocks (walk_child blocks below) below (Child cid) old new None
+child_put_only blocks below cid old new by_form some tree = record {
+  pairs = tree.put.pairs;
+  walk = child_is_walked blocks below cid some ∙ tree.put.walk;
+  put = tree.put.put;
+  fit = tree.put.fit;
+  canonical = tt;
 }
 
 -- ---- the whole tree
@@ -176,3 +198,22 @@ child_put blocks below cid old new start place some put at is = record {
 -- the pairs that were put behind nothing are those of a walk
 pub put_found : (walked : Result Map TreeFault) (old new pairs : List (List ℕ × List ℕ)) → old ≡ [] → ArePut walked old new → ((all : Pairs) → new ≡ spellings all → FitNodes all → Holds pairs (from_entries all)) → AreFound walked pairs
 put_found walked old new pairs none put made = (map_of put.pairs, put.walk, made put.pairs (put.put ∙ ap (λ xs. xs ++ spellings put.pairs) none) put.fit)
+
+-- what fits into a node fits as the pairs of a map
+map_fits : (pairs : Pairs) → FitNodes pairs → FitNodes (entries (map_of pairs))
+map_fits [] fit = (Holds-empty [] refl).fit
+map_fits (p ∷ pairs) fit =
+    let rest : Holds (spellings (entries (map_of pairs))) (map_of pairs) = record { same = refl; fit = map_fits pairs (All-tail (λ p. IsPlain 124 p.1) p pairs fit) } in
+    (Holds-insert (spellings (entries (map_of pairs))) (put key_cmp p.0 (spelled p.1) (spellings (entries (map_of pairs)))) (map_of pairs) p.0 p.1 rest (All-head (λ p. IsPlain 124 p.1) p pairs fit) refl).fit
+
+-- a tree whose nodes all have the form of canonical ones can be kept by its root
+pub tree_kept : (held : List BlockParts) (root : CidParts) (old new : List (List ℕ × List ℕ)) (by_form : Bool) → IsTreePut held 50 (walk held 50 root) old new by_form → by_form ≡ true → IsJudged held root None
+tree_kept held root old new by_form tree form = (
+  map_of tree.put.pairs,
+  record {
+    walk = tree.put.walk;
+    top = sym (walk_named held 50 root (map_of tree.put.pairs) tree.put.walk);
+    nodes = tree.kept (subst T (sym form) tt);
+    fit = map_fits tree.put.pairs tree.put.fit;
+  },
+)

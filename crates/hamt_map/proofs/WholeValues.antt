@@ -1,5 +1,5 @@
 -- The value that a node was read of is the one of its bit field and its pointers.
-use Rattle.std.proofs.Common.{◌≡◌, ℕ, true, false, cond, eqb, List, [], ◌∷◌, map, Option, Some, None, refl, sym, ap, ◌∙◌}
+use Rattle.std.proofs.Common.{◌≡◌, ℕ, true, false, cond, eqb, List, [], ◌∷◌, map, Option, Some, None, sym, ap, ◌∙◌}
 use Rattle.std.specs.List.{AllZip}
 use Rattle.dag_cbor.specs.declared.value.Value.{Value, Value-F, out-Value, roll-Value, roll-out-Value}
 use Rattle.dag_cbor.specs.declared.value.Value.TheOpen as layer
@@ -7,12 +7,11 @@ use Rattle.dag_cbor.specs.declared.value.Value.TheVariants as v
 use Rattle.tree_blocks.specs.Forms.{bytes_in, for_each, if_some, items_in}
 use Rattle.tree_blocks.proofs.ForEach.{if_some_gives}
 use Rattle.hamt_map.specs.Canonical.{node_of, pointer_value}
-use Rattle.hamt_map.specs.Node.{bucket, pair_value}
+use Rattle.hamt_map.specs.Node.{pair_value}
 use Rattle.hamt_map.specs.Pairs.{Pairs}
-use Rattle.hamt_map.specs.ReadPointers.{IsFound, IsNode, IsPointer}
-use Rattle.hamt_map.specs.Walk.{Pointer, Bucket, Child, pair_in, pointer_of, two_in, two_of}
+use Rattle.hamt_map.specs.ReadPointers.{IsNode, IsPointer}
+use Rattle.hamt_map.specs.Walk.{Pointer, Bucket, Child, pair_in, pointer_of, pointer_values, pointers_in, two_in, two_of}
 use Rattle.hamt_map.specs.declared.node_form.ReadNode.{ReadNode}
-use Rattle.hamt_map.specs.declared.node_form.ReadPointer.{ReadPointer}
 
 -- ---- lists and byte strings
 
@@ -54,11 +53,6 @@ pub two_are : (x : Value) (both : Value × Value) → two_in x ≡ Some both →
 two_are x both e =
     let items = if_some_gives (items_in (out-Value x)) two_of both e in
     list_is x items.0 items.1 ∙ ap v.List (two_items items.0 both items.2)
-
--- the parts of a node
-pub parts_are : (x first second : Value) (bits : List ℕ) (values : List Value) → Some (first, second) ≡ two_in x → Some bits ≡ bytes_in (out-Value first) → Some values ≡ items_in (out-Value second) → x ≡ node_of bits values
-parts_are x first second bits values two blob list =
-    two_are x (first, second) (sym two) ∙ (λ i. v.List (blob_is first bits (sym blob) i ∷ (list_is second values (sym list) i ∷ [])))
 
 -- ---- pointers
 
@@ -105,7 +99,10 @@ pointers_are below (x ∷ values) those e =
     ap (map pointer_value) (sym whole) ∙ (λ i. pointer_is below x first.0 first.1 i ∷ pointers_are below values rest.0 rest.1 i)
 
 -- the node of a bit field and of the pointers that were read
-pub node_found : (below : ℕ) (bits own : List ℕ) (values : List Value) (pointers : List ReadPointer) → own ≡ bits → IsFound (AllZip IsPointer) (Some pointers) (for_each (λ value. pointer_of below (out-Value value)) values)
-    → IsFound (IsNode (node_of bits values)) (Some (record { bits = own; pointers = pointers })) (for_each (λ value. pointer_of below (out-Value value)) values)
-node_found below bits own values pointers same read =
-    (read.0, read.1, record { zip = read.2; whole = λ i. node_of (sym same i) (sym (pointers_are below values read.0 read.1) i) })
+pub node_found : (below : ℕ) (value : Value) (bits : List ℕ) (values : List Value) (node : ReadNode) (those : List Pointer) → pointer_values value ≡ Some values → value ≡ node_of bits values → node.bits.now ≡ bits
+    → for_each (λ value. pointer_of below (out-Value value)) values ≡ Some those → AllZip IsPointer node.pointers those → (those : List Pointer) × (pointers_in below value ≡ Some those) × IsNode value node those
+node_found below value bits values node those is whole same read zip = (
+  those,
+  ap (λ (r : Option (List Value)). if_some r (for_each (λ value. pointer_of below (out-Value value)))) is ∙ read,
+  record { zip = zip; whole = whole ∙ (λ i. node_of (sym same i) (sym (pointers_are below values those read) i)) },
+)

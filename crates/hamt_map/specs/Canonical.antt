@@ -1,24 +1,20 @@
 -- What shows that a node that was read is the canonical one, with no need to build it.
-use Rattle.std.specs.Prelude.{◌≡◌, ℕ, ◌+◌, ◌-◌, ◌^◌, ◌<◌, ◌&&◌, ◌||◌, ◌==◌, Bool, false, List, [], ◌∷◌, ◌++◌, IfSome, length, map, nat_eq, nat_le, nat_lt, if◌then◌else◌}
+use Rattle.std.specs.Prelude.{◌≡◌, ℕ, ◌+◌, ◌-◌, ◌^◌, ◌&&◌, ◌||◌, ◌==◌, Bool, false, List, [], ◌∷◌, ◌++◌, length, nat_eq, nat_le, nat_lt, if◌then◌else◌}
 use Rattle.std.specs.Cmp.Lexicographic.{pointwise}
 use Rattle.std.specs.FinMap.{entries, from_entries}
 use Rattle.std.specs.FinMap.Entries.{is_sorted}
 use Rattle.std.specs.Int.Digits.{digits_of}
-use Rattle.std.specs.List.{AllByRecursion, flat_map, list_all}
+use Rattle.std.specs.List.{list_all}
 use Rattle.std.specs.declared.option.Option.{Option}
 use Rattle.std.specs.declared.option.Option.TheVariants.{None, Some}
 use Rattle.std.specs.declared.result.Result.{Result}
 use Rattle.std.specs.declared.result.Result.TheVariants.{Ok}
 use Rattle.fil_base.specs.CidParts.{CidParts}
-use Rattle.cid_core.specs.BlockParts.{BlockParts}
-use Rattle.dag_cbor.specs.Spelling.{spelled}
 use Rattle.dag_cbor.specs.declared.value.Value.{Value}
 use Rattle.dag_cbor.specs.declared.value.Value.TheVariants as v
-use Rattle.hamt_map.specs.Groups.{bits_from, by_place, pointer_to, pointers_of}
 use Rattle.hamt_map.specs.Holds.{FitNodes, spellings}
-use Rattle.hamt_map.specs.Loading.{gathered_map, map_under}
 use Rattle.hamt_map.specs.Node.{bucket}
-use Rattle.hamt_map.specs.Pairs.{Map, Pairs, at_place, key_cmp, place_on}
+use Rattle.hamt_map.specs.Pairs.{Map, Pairs, key_cmp, place_on}
 use Rattle.hamt_map.specs.Walk.{Pointer, Bucket, Child}
 use Rattle.tree_blocks.specs.declared.fault.TreeFault.{TreeFault}
 
@@ -65,21 +61,6 @@ is_field (Some places) bits = pointwise nat_eq (digits_of 256 places) bits
 abbrev pub has_canonical_form : Option ℕ → List ℕ → CidParts → Bool
 has_canonical_form places bits cid = (cid.codec == 0x71 && cid.hash == 0xb220) && is_field places bits
 
--- pairs are those under a pointer of a canonical node, which has this place
-pub record PointsTo (below : ℕ) (pairs : Pairs) (pointer : Value) (place : ℕ) : Type 0 where
-  pub small : place < 32
-  pub some : 0 < length pairs
-  pub there : AllByRecursion (λ p. place_on (51 - below) p.0 ≡ place) pairs
-  pub same : pointer_to below (entries (map_of pairs)) ≡ pointer
-  pub once : length pairs ≡ length (entries (map_of pairs))
-
--- pairs are those under the first pointers of a canonical node, whose places have these bits
-pub record StandIn (below : ℕ) (pairs : Pairs) (pointers : List Value) (bits : ℕ) : Type 0 where
-  pub same : flat_map (pointers_of below) (by_place (51 - below) (entries (map_of pairs))) ≡ pointers
-  pub field : bits_from 0 (by_place (51 - below) (entries (map_of pairs))) ≡ bits
-  pub behind : (k : ℕ) → bits < 2 ^ k → at_place (51 - below) k pairs ≡ []
-  pub once : length pairs ≡ length (entries (map_of pairs))
-
 -- pairs of a map, which a walk gave, stand behind those that were there, each key once
 pub record ArePut (walked : Result Map TreeFault) (old new : List (List ℕ × List ℕ)) : Type 0 where
   pub pairs : Pairs
@@ -87,30 +68,3 @@ pub record ArePut (walked : Result Map TreeFault) (old new : List (List ℕ × L
   pub put : new ≡ old ++ spellings pairs
   pub fit : FitNodes pairs
   pub once : length pairs ≡ length (entries (map_of pairs))
-
--- the pairs under a pointer stand behind those that were there; with its place, if it is that of a canonical node
-pub record IsPointerPut (child : CidParts → Result Map TreeFault) (below : ℕ) (pointer : Pointer) (old new : List (List ℕ × List ℕ)) (place : Option ℕ) : Type 0 where
-  pub pairs : Pairs
-  pub walk : map_under child pointer ≡ Ok (map_of pairs)
-  pub put : new ≡ old ++ spellings pairs
-  pub fit : FitNodes pairs
-  pub canonical : IfSome place (PointsTo below pairs (pointer_value pointer))
-
--- the pairs under pointers stand behind those that were there; with the bits of their places, if they are those of a
--- canonical node
-pub record ArePointersPut (child : CidParts → Result Map TreeFault) (below : ℕ) (pointers : List Pointer) (old new : List (List ℕ × List ℕ)) (places : Option ℕ) : Type 0 where
-  pub pairs : Pairs
-  pub walk : gathered_map child pointers ≡ Ok (map_of pairs)
-  pub put : new ≡ old ++ spellings pairs
-  pub fit : FitNodes pairs
-  pub canonical : IfSome places (StandIn below pairs (map pointer_value pointers))
-
--- pairs were read under a node of a bit field and pointers, which a block spells
-pub record IsRead (below : ℕ) (block : BlockParts) (bits : List ℕ) (places : Option ℕ) (leaves : List (List ℕ × List ℕ)) (m : Map) : Type 0 where
-  pub pairs : Pairs
-  pub pointers : List Value
-  pub same : leaves ≡ spellings pairs
-  pub fit : FitNodes pairs
-  pub map : m ≡ map_of pairs
-  pub bytes : block.bytes ≡ spelled (node_of bits pointers)
-  pub canonical : IfSome places (StandIn below pairs pointers)

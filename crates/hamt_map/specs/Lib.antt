@@ -3,8 +3,15 @@ pub mod Node
 pub mod Groups
 pub mod Walk
 pub mod Holds
+pub mod Kept
 pub mod Stands
 pub mod Loading
 pub mod StateFaults
 pub mod Canonical
+pub mod HashOrder
+pub mod Lent
 pub mod ReadPointers
+pub mod Omitted
+pub mod KeptNode
+pub mod Ahead
+pub mod WalkedPairs

@@ -1,68 +1,67 @@
-ghost use Rattle.std.specs.Prelude.{◌≡◌, ◌≤◌, ◌-◌, ◌*◌, ◌/◌, ◌%◌, ◌^◌, ◌∷◌, [], IfOk, OnOk};
+ghost use Rattle.std.specs.Prelude.{◌≡◌, ◌≤◌, ◌-◌, ◌*◌, ◌/◌, ◌%◌, ◌^◌, ◌++◌, drop, replicate};
 ghost use Rattle.std.specs.Int.Digits.{number_from_digits};
-ghost use Rattle.dag_cbor.specs.Plain.{IsPlain};
-ghost use Rattle.hamt_map.specs.Node.{pair_value};
-ghost use Rattle.hamt_map.specs.Pairs.{place_on};
+ghost use Rattle.hamt_map.specs.HashOrder.{place_of};
+ghost use Rattle.hamt_map.specs.Lent.{IsHashed};
 
-use dag_cbor::Value;
-use fil_base::{Bytes, Mem};
 use sha2::{Digest, Sha256};
-use sqlite_items::Items;
-use std::alloc::Global;
-use std::marker::Model;
 
-/// A key with its value, and with the key's hash.
-#[derive(Drop)]
-pub(crate) struct Hashed {
-    key: Vec<u8>,
-    value: Value,
-    hash: [u8; 32],
+/// A key and the spelling of its value, both lent, with the bits of the key's hash from a level on. They are compared
+/// by these bits first.
+#[derive(Clone, Copy, PartialEq, Eq, PartialOrd, Ord)]
+pub(crate) struct Hashed<'a> {
+    pub(crate) hash: [u8; 32],
+    pub(crate) key: &'a [u8],
+    pub(crate) spelling: &'a [u8],
 }
 
-impl Model for Hashed {
-    ghost use Rattle.std.specs.Prelude.{◌≡◌, List, ℕ};
-    ghost use Rattle.sha2.specs.Sha256.{sha256};
-    ghost use Rattle.std.specs.Coded.{codes};
-    ghost use Rattle.dag_cbor.specs.contracts.value.Value as cbor;
-    ghost use Rattle.dag_cbor.specs.declared.value.Value.{Value as CborValue};
-
-    ghost Value = { List ℕ × CborValue };
-
-    ghost coded = { Prim.hlevel (codes, cbor.the_row.coded) };
-
-    ghost view = { λ pair. (pair.key.items, pair.value) };
-
-    ghost invariant = { λ pair. pair.hash ≡ sha256 pair.key.items };
-}
-
-impl Hashed {
-    pub(crate) fn of(key: Bytes, value: Value) -> Hashed
-        ensures { result ≡ (key, value) }
+impl<'a> Hashed<'a> {
+    /// A pair with the bits of its hash that count where so many levels are below.
+    pub(crate) fn of(below: u64, key: &'a [u8], spelling: &'a [u8]) -> Hashed<'a>
+        requires { below ≤ 50 }
+        ensures key { result.key.now ≡ key.now }
+        ensures spelling { result.spelling.now ≡ spelling.now }
+        ensures hash { IsHashed below result }
     {
-        let key = key.into_vec();
-        let hash = Sha256::digest(key.as_slice());
-        Hashed { key, value, hash }
+        let hash = low_bits(Sha256::digest(key), 250 - 5 * below as usize);
+        Hashed {
+            hash,
+            key,
+            spelling,
+        }
     }
 
-    /// The place of the key on a level.
+    /// The place on a level.
     pub(crate) fn place(&self, level: u64) -> usize
         requires first { 1 ≤ level }
         requires last { level ≤ 51 }
-        ensures { result ≡ place_on level self.now.0 }
+        ensures { result ≡ place_of level (number_from_digits 256 self.now.hash) }
     {
         place_in(&self.hash, level)
     }
+}
 
-    /// The pair in a bucket: a list of the key and the value.
-    pub(crate) fn into_value(self, alloc: Global) -> Mem<Value>
-        requires { IsPlain 124 self.1 }
-        ensures pair { IfOk result (λ value. value ≡ pair_value self) }
-        ensures plain { IfOk result (IsPlain 125) }
-    {
-        let Hashed { key, value, .. } = self;
-        let pair = vec![in alloc; Value::Blob(Bytes::of(key)), value]?;
-        Ok(Value::List(Items::from_vec(pair)))
+/// A hash without so many of its first bits.
+fn low_bits(hash: [u8; 32], gone: usize) -> [u8; 32]
+    requires { gone ≤ 250 }
+    ensures { number_from_digits 256 result ≡ number_from_digits 256 hash % 2 ^ (256 - gone) }
+{
+    let at = gone / 8;
+    let kept = u16::from(hash[at]) % (1 << (8 - gone % 8));
+    let mut low = without_first(hash, at);
+    low[at] = kept as u8;
+    low
+}
+
+/// A hash without so many of its first bytes.
+fn without_first(hash: [u8; 32], count: usize) -> [u8; 32]
+    requires { count ≤ 32 }
+    ensures { result ≡ replicate count 0 ++ drop count hash }
+{
+    let mut low = hash;
+    for i in 0..count {
+        low[i] = 0;
     }
+    low
 }
 
 /// Five bits of a hash, from the most significant on. They stand in two bytes next to each other.

@@ -1,56 +1,41 @@
-ghost use Rattle.std.specs.Prelude.{◌≡◌, ◌≤◌, ◌-◌, IfOk};
+ghost use Rattle.std.specs.Prelude.{◌≡◌, ◌≤◌, ◌-◌};
 ghost use Rattle.std.specs.FinMap.Entries.{is_sorted};
 ghost use Rattle.std.specs.Ordering.{is_lt};
-ghost use Rattle.dag_cbor.specs.Plain.{IsPlain};
-ghost use Rattle.dag_cbor.specs.Spelling.{spelled};
 ghost use Rattle.hamt_map.specs.Canonical.{common_place as place_of_all};
 ghost use Rattle.hamt_map.specs.Holds.{IsSpelling};
 ghost use Rattle.hamt_map.specs.Pairs.{key_cmp, place_on};
 
 use crate::hashed::place_in;
-use dag_cbor::{Value, encode};
-use fil_base::Mem;
 use sha2::{Digest, Sha256};
-use std::alloc::Global;
 use std::marker::Model;
 
-/// A key with the spelling of its value, and with the key's hash.
+/// A key with the spelling of its value, both lent by a block, and with the key's hash.
 #[derive(Drop)]
-pub(crate) struct Leaf {
-    key: Vec<u8>,
-    spelling: Vec<u8>,
+pub(crate) struct Leaf<'a> {
+    key: &'a [u8],
+    spelling: &'a [u8],
     hash: [u8; 32],
 }
 
-impl Model for Leaf {
+impl<'a> Model for Leaf<'a> {
     ghost use Rattle.std.specs.Prelude.{◌≡◌, List, ℕ};
     ghost use Rattle.sha2.specs.Sha256.{sha256};
     ghost use Rattle.hamt_map.specs.Holds.{IsSpelling};
 
     ghost Value = { List ℕ × List ℕ };
 
-    ghost view = { λ leaf. (leaf.key.items, leaf.spelling.items) };
+    ghost view = { λ leaf. (leaf.key.now, leaf.spelling.now) };
 
-    ghost invariant = { λ leaf. (leaf.hash ≡ sha256 leaf.key.items) × IsSpelling leaf.spelling.items };
+    ghost invariant = { λ leaf. (leaf.hash ≡ sha256 leaf.key.now) × IsSpelling leaf.spelling.now };
 }
 
-impl Leaf {
-    /// A key and its value.
-    pub(crate) fn of(alloc: Global, key: &[u8], value: &Value) -> Mem<Leaf>
-        requires { IsPlain 124 value.now }
-        ensures { IfOk result (λ leaf. leaf ≡ (key.now, spelled value.now)) }
-    {
-        let spelling = encode(alloc, value)?;
-        let key = Vec::from_slice(alloc, key)?;
-        Ok(Leaf::of_spelling(key, spelling.into_vec()))
-    }
-
+impl<'a> Leaf<'a> {
     /// A key and the spelling of its value.
-    pub(crate) fn of_spelling(key: Vec<u8>, spelling: Vec<u8>) -> Leaf
-        requires { IsSpelling spelling.items }
-        ensures { result ≡ (key.items, spelling.items) }
+    pub(crate) fn of(key: &'a [u8], spelling: &'a [u8]) -> Leaf<'a>
+        requires { IsSpelling spelling.now }
+        ensures { result ≡ (key.now, spelling.now) }
     {
-        let hash = Sha256::digest(key.as_slice());
+        let hash = Sha256::digest(key);
         Leaf {
             key,
             spelling,
@@ -58,11 +43,26 @@ impl Leaf {
         }
     }
 
+    /// The key.
+    pub(crate) fn key(&self) -> &'a [u8]
+        ensures { result.now ≡ self.now.0 }
+    {
+        self.key
+    }
+
+    /// The spelling of the value.
+    pub(crate) fn spelling(&self) -> &'a [u8]
+        ensures value { result.now ≡ self.now.1 }
+        ensures is { IsSpelling result.now }
+    {
+        self.spelling
+    }
+
     /// Whether the key is before another's.
     pub(crate) fn is_before(&self, other: &Leaf) -> bool
         ensures { result ≡ is_lt (key_cmp self.now.0 other.now.0) }
     {
-        self.key.as_slice().cmp(other.key.as_slice()).is_lt()
+        self.key.cmp(other.key).is_lt()
     }
 
     /// The place of the key on a level.
@@ -72,15 +72,6 @@ impl Leaf {
         ensures { result ≡ place_on level self.now.0 }
     {
         place_in(&self.hash, level)
-    }
-
-    /// The key and the spelling of its value.
-    pub(crate) fn into_parts(self) -> (Vec<u8>, Vec<u8>)
-        ensures parts { (result.0.items, result.1.items) ≡ self }
-        ensures spelling { IsSpelling result.1.items }
-    {
-        let Leaf { key, spelling, .. } = self;
-        (key, spelling)
     }
 }
 

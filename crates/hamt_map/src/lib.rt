@@ -9,18 +9,25 @@
 #![tactic(auto)]
 
 mod bit_field;
-mod groups;
+mod buckets;
+mod finding;
 mod hamt;
 mod hashed;
+mod kept_bucket;
 mod laws;
 mod leaf;
 mod loading;
 mod loading_law;
 mod node_form;
 mod nodes;
+mod once;
 mod pairs;
+mod pointers;
+mod rebuilding;
+mod runs;
 mod state_fault;
 mod state_value;
+mod stepping;
 
 pub use hamt::Hamt;
 pub use laws::{one_map, one_order};
@@ -30,6 +37,10 @@ pub use state_value::value_under;
 pub use tree_blocks::TreeFault as HamtFault;
 
 #[cfg(test)]
+mod finding_tests;
+#[cfg(test)]
 mod load_tests;
+#[cfg(test)]
+mod rebuild_tests;
 #[cfg(test)]
 mod tests;

@@ -15,7 +15,7 @@ const EMPTY_DIGEST: [u8; 32] = [
 ];
 
 // The node on the second level of `s`, `bf`, `ff` and `fw`.
-const FOUR: &[u8] = b"\x82\x44\x80\x49\x00\x00\x84\
+pub(crate) const FOUR: &[u8] = b"\x82\x44\x80\x49\x00\x00\x84\
     \x81\x82\x41s\x02\x81\x82\x42bf\x03\x81\x82\x42ff\x04\x81\x82\x42fw\x05";
 
 // The node on the second level of the last three.
@@ -28,7 +28,8 @@ const OVER_FOUR: &[u8] = b"\x82\x41\x01\x81\xd8\x2a\x58\x27\x00\x01\x71\xa0\xe4\
     \x9c\x76\xe5\x1f\x87\xd1\x04\x46\xae\x60\x34\xc4\x06\xec\x59\x57";
 
 // The same with a bucket of `u` behind the link.
-const OVER_FOUR_AND_ONE: &[u8] = b"\x82\x41\x03\x82\xd8\x2a\x58\x27\x00\x01\x71\xa0\xe4\x02\x20\
+pub(crate) const OVER_FOUR_AND_ONE: &[u8] =
+    b"\x82\x41\x03\x82\xd8\x2a\x58\x27\x00\x01\x71\xa0\xe4\x02\x20\
     \x98\x4b\x16\x90\x90\xab\x0c\xc8\x3f\x10\x3a\x53\x76\x38\x80\xab\
     \x9c\x76\xe5\x1f\x87\xd1\x04\x46\xae\x60\x34\xc4\x06\xec\x59\x57\x81\x82\x41u\x01";
 
@@ -45,9 +46,9 @@ const OVER_FOUR_AND_NO_NODE: &[u8] = b"\x82\x41\x03\x82\xd8\x2a\x58\x27\x00\x01\
     \xe4\xeb\xa4\x8e\x88\x15\x72\x9c\xe7\x5f\x9c\x0a\xb0\xe4\xc1\xc0";
 
 #[derive(Drop)]
-struct TwoBlocks {
-    first: Block,
-    second: Block,
+pub(crate) struct TwoBlocks {
+    pub(crate) first: Block,
+    pub(crate) second: Block,
 }
 
 impl BlockSource for TwoBlocks {
@@ -66,7 +67,7 @@ impl BlockSource for TwoBlocks {
     }
 }
 
-fn block(rt: HostRuntime, bytes: &[u8]) -> Result<Block, Fail> {
+pub(crate) fn block(rt: HostRuntime, bytes: &[u8]) -> Result<Block, Fail> {
     let bytes = Bytes::copy_of(rt.alloc(), bytes)?;
     Ok(Block::of(rt.alloc(), 0x71, bytes)?)
 }

@@ -1,25 +1,23 @@
-ghost use Rattle.std.specs.Prelude.{◌≡◌, ◌≤◌, All, IfOk, IfSome, length};
+ghost use Rattle.std.specs.Prelude.{◌≡◌, ◌==◌, ◌&&◌, [], ◌∷◌, ℕ, nat_le, suc, IfOk, List, None, false, length, true};
 ghost use Rattle.std.specs.List.{AllZip};
-ghost use Rattle.std.specs.Option.{option_map};
 ghost use Rattle.dag_cbor.specs.Plain.{IsPlain};
-ghost use Rattle.dag_cbor.specs.declared.value.Value.{out-Value};
-ghost use Rattle.dag_cbor.specs.declared.value.Value.TheOpen as layer;
-ghost use Rattle.hamt_map.specs.Canonical.{node_of as value_of};
-ghost use Rattle.hamt_map.specs.ReadPointers.{IsFound, IsNode, IsNodeIn, IsPointer};
-ghost use Rattle.tree_blocks.specs.Forms.{bytes_in as blob_in, for_each, items_in as list_in, set_bits as ones_in};
-ghost use Rattle.hamt_map.specs.Walk.{Bucket, node_in as pointers_at, pair_in as pair_at, pointer_of as pointer_at, pointer_values as values_in, pointers_in as node_at, two_in as both_in};
+ghost use Rattle.dag_cbor.specs.Spelling.{spelled};
+ghost use Rattle.dag_cbor.specs.declared.value.Value.{Value, out-Value};
+ghost use Rattle.hamt_map.specs.ReadPointers.{AreAt, AreParts, IsAt, IsFound, IsLeafAt, IsNode, IsNodeIn, IsPointer, IsPointerAt, link_in};
+ghost use Rattle.tree_blocks.specs.Forms.{for_each, items_in as list_in, set_bits as ones_in};
+ghost use Rattle.hamt_map.specs.Walk.{Bucket, node_in as pointers_at, pair_in as pair_of, pointer_of as pointer_there, pointer_values as values_in, pointers_in as node_at, two_in as both_in};
 
 use crate::leaf::Leaf;
-use dag_cbor::{Value, decode};
-use fil_base::{Bytes, Cid, Failure, Mem, NoMemory, Row};
+use dag_cbor::{MAX_DEPTH, Value, blob, decode, list_head, split_item};
+use fil_base::{Cid, Failure, Mem, NoMemory, Row};
 use std::alloc::Global;
-use tree_blocks::{bytes_in, items_in, set_bits};
+use tree_blocks::set_bits;
 
 /// What a pointer of a node points to.
 #[derive(Drop)]
-pub(crate) enum ReadPointer {
+pub(crate) enum ReadPointer<'a> {
     /// The pairs of a bucket, in their order.
-    Bucket(Row<Leaf>),
+    Bucket(Row<Leaf<'a>>),
 
     /// A node below.
     Child(Cid),
@@ -27,134 +25,191 @@ pub(crate) enum ReadPointer {
 
 /// A node that was read: its bit field, and its pointers in their order.
 #[derive(Drop)]
-pub(crate) struct ReadNode {
-    pub(crate) bits: Bytes,
-    pub(crate) pointers: Row<ReadPointer>,
+pub(crate) struct ReadNode<'a> {
+    pub(crate) bits: &'a [u8],
+    pub(crate) pointers: Row<ReadPointer<'a>>,
 }
 
 /// The node that the bytes spell, if they spell one with so many levels below.
-pub(crate) fn node_in(alloc: Global, below: u64, bytes: &[u8]) -> Mem<Option<ReadNode>>
+pub(crate) fn node_in(alloc: Global, below: u64, bytes: &[u8]) -> Mem<Option<ReadNode<'_>>>
     ensures { IfOk result (λ found. IsFound (IsNodeIn bytes.now) found (pointers_at below bytes.now)) }
 {
+    // Then no item is cut off where one is looked for.
+    if is_value(bytes) {
+        node_of(alloc, below, bytes)
+    } else {
+        Ok(None)
+    }
+}
+
+/// Whether the bytes spell a value.
+fn is_value(bytes: &[u8]) -> bool
+    ensures found { result ≡ true → (value : Value) × IsPlain MAX_DEPTH value × (bytes.now ≡ spelled value) }
+    ensures only { result ≡ false → (value : Value) → IsPlain MAX_DEPTH value → bytes.now ≡ spelled value → ⊥ }
+{
+    match split_item(MAX_DEPTH, bytes) {
+        Some((_, rest)) => rest.is_empty(),
+        None => false,
+    }
+}
+
+/// The node that the value is which the bytes spell, if it is one.
+fn node_of(alloc: Global, below: u64, bytes: &[u8]) -> Mem<Option<ReadNode<'_>>>
+    ensures { (value : Value) → IsAt 128 value bytes.now []
+        → IfOk result (λ found. IsFound (IsNode value) found (node_at below value)) }
+{
+    let Some((bits, count, behind)) = node_parts(bytes) else {
+        return Ok(None);
+    };
+    let Some(pointers) = pointers_of(alloc, below, count, behind)? else {
+        return Ok(None);
+    };
+    Ok(Some(ReadNode { bits, pointers }))
+}
+
+/// The bit field of a node, how many pointers it has, which are as many as it has set bits, and the bytes of these.
+fn node_parts(bytes: &[u8]) -> Option<(&[u8], u64, &[u8])>
+    ensures { (value : Value) → IsAt 128 value bytes.now []
+        → IsFound (λ x values. AreParts value x.0.now x.1 x.2.now values) result (values_in value) }
+{
+    let both = two_at(bytes)?;
+    let (bits, behind) = blob(both)?;
+    prove!(bits.len() <= usize::MAX);
+    let (count, pointers) = list_head(behind)?;
+    prove!(count <= u64::MAX);
+    if is_field_of(count, bits) {
+        Some((bits, count, pointers))
+    } else {
+        None
+    }
+}
+
+/// Whether a bit field has 4 bytes at most, and as many set bits as there are pointers.
+fn is_field_of(count: u64, bits: &[u8]) -> bool
+    ensures { result ≡ (nat_le (length bits.now) 4 && count == ones_in bits.now) }
+{
+    bits.len() <= 4 && count == set_bits(bits) as u64
+}
+
+/// The pointers that so many values at the front are, if each is one.
+fn pointers_of(
+    alloc: Global,
+    below: u64,
+    count: u64,
+    bytes: &[u8],
+) -> Mem<Option<Row<ReadPointer<'_>>>>
+    ensures { (values : List Value) (last : List ℕ) → length values ≡ count → AreAt 126 values bytes.now last
+        → IfOk result (λ found. IsFound (AllZip IsPointer) found
+        (for_each (λ value. pointer_there below (out-Value value)) values)) }
+{
+    let mut pointers = Vec::new(alloc);
+    let mut rest = bytes;
+    let mut left = count;
+    while left > 0 {
+        left -= 1;
+        let Some((pointer, behind)) = pointer_at(alloc, below, rest)? else {
+            return Ok(None);
+        };
+        pointers.push(pointer)?;
+        rest = behind;
+    }
+    Ok(Some(Row::of(pointers)))
+}
+
+/// The pointer that the value at the front is, and the bytes behind it: a bucket, or a link where there is a level
+/// below.
+fn pointer_at(alloc: Global, below: u64, bytes: &[u8]) -> Mem<Option<(ReadPointer<'_>, &[u8])>>
+    ensures { (value : Value) (rest : List ℕ) → IsAt 126 value bytes.now rest
+        → IfOk result (λ found. IsFound (λ x pointer. IsPointerAt rest x.0 x.1.now pointer) found
+        (pointer_there below (out-Value value))) }
+{
+    match list_head(bytes) {
+        Some((count, pairs)) => {
+            prove!(count <= u64::MAX);
+            bucket_of(alloc, count, pairs)
+        }
+        None => child_at(alloc, below, bytes),
+    }
+}
+
+/// The bucket of the pairs that so many values at the front are, if each is one, and the bytes behind them.
+fn bucket_of(alloc: Global, count: u64, bytes: &[u8]) -> Mem<Option<(ReadPointer<'_>, &[u8])>>
+    ensures { (values : List Value) (last : List ℕ) → length values ≡ count → AreAt 125 values bytes.now last
+        → IfOk result (λ found. IsFound (λ x pairs. IsPointerAt last x.0 x.1.now (Bucket pairs)) found
+        (for_each pair_of values)) }
+{
+    let mut leaves = Vec::new(alloc);
+    let mut rest = bytes;
+    let mut left = count;
+    while left > 0 {
+        left -= 1;
+        let Some((leaf, behind)) = pair_at(rest) else {
+            return Ok(None);
+        };
+        leaves.push(leaf)?;
+        rest = behind;
+    }
+    Ok(Some((ReadPointer::Bucket(Row::of(leaves)), rest)))
+}
+
+/// The node below to which the value at the front is a link, if there is a level below, and the bytes behind it.
+fn child_at(alloc: Global, below: u64, bytes: &[u8]) -> Mem<Option<(ReadPointer<'_>, &[u8])>>
+    ensures { (value : Value) (rest : List ℕ) → IsAt 126 value bytes.now rest → list_in (out-Value value) ≡ None
+        → IfOk result (λ found. IsFound (λ x pointer. IsPointerAt rest x.0 x.1.now pointer) found
+        (pointer_there below (out-Value value))) }
+{
+    if below == 0 {
+        return Ok(None);
+    }
+    let Some((item, rest)) = split_item(126, bytes) else {
+        return Ok(None);
+    };
+    let Some(cid) = link_of(alloc, item)? else {
+        return Ok(None);
+    };
+    Ok(Some((ReadPointer::Child(cid), rest)))
+}
+
+/// The CID to which the value is a link that the bytes spell, if it is one.
+fn link_of(alloc: Global, bytes: &[u8]) -> Mem<Option<Cid>>
+    ensures { (value : Value) → IsPlain 126 value → bytes.now ≡ spelled value
+        → IfOk result (λ cid. cid ≡ link_in (out-Value value)) }
+{
     match decode(alloc, bytes) {
-        Ok(value) => node_of(alloc, below, &value),
+        Ok(value) => copy_of_link(alloc, &value),
         Err(Failure::NoMemory) => Err(NoMemory),
         Err(Failure::Fault(_)) => Ok(None),
     }
 }
 
-/// The node that the value is, if it is one.
-fn node_of(alloc: Global, below: u64, value: &Value) -> Mem<Option<ReadNode>>
-    requires { IsPlain 128 value.now }
-    ensures { IfOk result (λ found. IsFound (IsNode value.now) found (node_at below value.now)) }
-{
-    match node_parts(value) {
-        Some((bits, values)) => node_of_parts(alloc, below, bits, values),
-        None => Ok(None),
-    }
-}
-
-/// The node of a bit field and of the pointers that the values are, if each is one.
-fn node_of_parts(alloc: Global, below: u64, bits: &[u8], values: &[Value]) -> Mem<Option<ReadNode>>
-    requires { All (IsPlain 126) values.now }
-    ensures { IfOk result (λ found. IsFound (IsNode (value_of bits.now values.now)) found
-        (for_each (λ value. pointer_at below (out-Value value)) values.now)) }
-{
-    let Some(pointers) = pointers_of(alloc, below, values)? else {
-        return Ok(None);
-    };
-    let bits = Bytes::copy_of(alloc, bits)?;
-    Ok(Some(ReadNode { bits, pointers }))
-}
-
-/// The bit field of a node, and the values where it has its pointers: as many as it has set bits.
-fn node_parts(value: &Value) -> Option<(&[u8], &[Value])>
-    ensures values { option_map (λ parts. parts.1.now) result ≡ values_in value.now }
-    ensures whole { IfSome result (λ parts. value.now ≡ value_of parts.0.now parts.1.now) }
-{
-    let (bits, values) = two_in(value)?;
-    let bits = bytes_in(bits)?;
-    let values = items_in(values)?;
-    if bits.len() <= 4 && values.len() == set_bits(bits) {
-        Some((bits, values))
-    } else {
-        None
-    }
-}
-
-/// The pointers that the values are, if each is one.
-fn pointers_of(alloc: Global, below: u64, values: &[Value]) -> Mem<Option<Row<ReadPointer>>>
-    requires { All (IsPlain 126) values.now }
-    ensures { IfOk result (λ found. IsFound (AllZip IsPointer) found
-        (for_each (λ value. pointer_at below (out-Value value)) values.now)) }
-{
-    let mut pointers = Vec::with_capacity(alloc, values.len())?;
-    for value in values {
-        let Some(pointer) = pointer_of(alloc, below, value)? else {
-            return Ok(None);
-        };
-        pointers.push(pointer)?;
-    }
-    Ok(Some(Row::of(pointers)))
-}
-
-/// The pointer that a value is: a bucket, or a link where there is a level below.
-fn pointer_of(alloc: Global, below: u64, value: &Value) -> Mem<Option<ReadPointer>>
-    requires { IsPlain 126 value.now }
-    ensures { IfOk result (λ found. IsFound IsPointer found (pointer_at below (out-Value value.now))) }
+/// The CID to which a value is a link.
+fn copy_of_link(alloc: Global, value: &Value) -> Mem<Option<Cid>>
+    ensures { IfOk result (λ cid. cid ≡ link_in (out-Value value.now)) }
 {
     match value {
-        Value::List(items) => bucket_of(alloc, items.as_slice()),
-        Value::Link(cid) => child_of(alloc, below, cid),
+        Value::Link(cid) => Ok(Some(cid.copy(alloc)?)),
         _ => Ok(None),
     }
 }
 
-/// The bucket of the pairs that the values are, if each is one.
-fn bucket_of(alloc: Global, values: &[Value]) -> Mem<Option<ReadPointer>>
-    requires { All (IsPlain 125) values.now }
-    ensures { IfOk result (λ found. IsFound (λ pointer pairs. IsPointer pointer (Bucket pairs)) found
-        (for_each pair_at values.now)) }
+/// The pair of a bucket at the front, and the bytes behind it.
+fn pair_at(bytes: &[u8]) -> Option<(Leaf<'_>, &[u8])>
+    ensures { (value : Value) (rest : List ℕ) → IsAt 125 value bytes.now rest
+        → IsFound (λ x pair. IsLeafAt rest x.0 x.1.now pair) result (pair_of value) }
 {
-    let mut leaves = Vec::with_capacity(alloc, values.len())?;
-    for value in values {
-        let Some((key, value)) = pair_in(value) else {
-            return Ok(None);
-        };
-        let leaf = Leaf::of(alloc, key, value)?;
-        leaves.push(leaf)?;
-    }
-    Ok(Some(ReadPointer::Bucket(Row::of(leaves))))
+    let both = two_at(bytes)?;
+    let (key, behind) = blob(both)?;
+    prove!(key.len() <= usize::MAX);
+    let (spelling, rest) = split_item(124, behind)?;
+    Some((Leaf::of(key, spelling), rest))
 }
 
-/// A node below, if there is a level below.
-fn child_of(alloc: Global, below: u64, cid: &Cid) -> Mem<Option<ReadPointer>>
-    ensures { IfOk result (λ found. IsFound IsPointer found (pointer_at below (layer.Link cid.now))) }
+/// The two items of the list of two at the front.
+fn two_at(bytes: &[u8]) -> Option<&[u8]>
+    ensures { (depth : ℕ) (value : Value) (rest : List ℕ) → IsAt (suc depth) value bytes.now rest
+        → IsFound (λ x both. AreAt depth (both.0 ∷ both.1 ∷ []) x.now rest) result (both_in value) }
 {
-    if below == 0 {
-        return Ok(None);
-    }
-    let cid = cid.copy(alloc)?;
-    Ok(Some(ReadPointer::Child(cid)))
-}
-
-/// A pair of a bucket: a key and its value.
-fn pair_in(value: &Value) -> Option<(&[u8], &Value)>
-    ensures { option_map (λ pair. (pair.0.now, pair.1.now)) result ≡ pair_at value.now }
-{
-    let (key, value) = two_in(value)?;
-    let key = bytes_in(key)?;
-    Some((key, value))
-}
-
-/// The two items of a list of two.
-fn two_in(value: &Value) -> Option<(&Value, &Value)>
-    ensures { option_map (λ both. (both.0.now, both.1.now)) result ≡ both_in value.now }
-{
-    let items = items_in(value)?;
-    if items.len() == 2 {
-        Some((&items[0], &items[1]))
-    } else {
-        None
-    }
+    let (count, items) = list_head(bytes)?;
+    prove!(count <= u64::MAX);
+    if count == 2 { Some(items) } else { None }
 }

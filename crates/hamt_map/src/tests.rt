@@ -139,3 +139,22 @@ fn four_pairs_at_a_place_get_a_node(rt: HostRuntime) -> Result<(), Fail> {
     assert!(rt; again == three);
     Ok(())
 }
+
+// The digest of the root of the keys of one byte below 100, which are given true and false in turn.
+const HUNDRED_DIGEST: [u8; 32] = [
+    0xa6, 0x57, 0xd9, 0x77, 0xf5, 0xf2, 0xcb, 0x03, 0x36, 0x78, 0xc3, 0x6c, 0xbb, 0x06, 0x59, 0x59,
+    0x32, 0xf7, 0x7f, 0xe5, 0xa2, 0xf0, 0x82, 0x0c, 0xec, 0xf6, 0x77, 0x92, 0x37, 0x2d, 0x8a, 0x4b,
+];
+
+#[test]
+fn a_hundred_pairs_have_eleven_nodes_under_the_root(rt: HostRuntime) -> Result<(), Fail> {
+    let base = Base { held: None };
+    let mut tree = Hamt::empty(rt.alloc());
+    for i in 0..100u8 {
+        tree.set(&base, &[i], truth(i % 2 == 0))?;
+    }
+    let (root, nodes) = tree.flush(&base)?;
+    assert_eq!(rt; root.digest(), HUNDRED_DIGEST.as_slice());
+    assert_eq!(rt; nodes.as_slice().len(), 12);
+    Ok(())
+}

@@ -1,4 +1,4 @@
-use Rattle.std.proofs.Common.{List, ℕ, ◌*◌, ◌+◌}
+use Rattle.std.proofs.Common.{List, ◌*◌, ◌+◌}
 use Rattle.std.specs.List.{AllZip}
 use Rattle.std.specs.Vec.Iter.{into_iter_items}
 use Rattle.hamt_map.specs.ReadPointers.{IsPointer}
@@ -21,4 +21,4 @@ decreases-put_child g l = 4 * l.below
 
 abbrev pub invariant-put_pointers-loop-pointer : goal.invariant-put_pointers-loop-pointer
 invariant-put_pointers-loop-pointer g l =
-    (those : List Pointer) → AllZip IsPointer l.fn.pointers those → PutSoFar (walk_child (g.B.BlockSource.blocks l.base) l.below) l.below those (into_iter_items l.pointer-iterator) l.initial.leaves.items l.leaves.items l.places
+    (those : List Pointer) → AllZip IsPointer l.fn.pointers those → PutSoFar (g.B.BlockSource.blocks l.base) (walk_child (g.B.BlockSource.blocks l.base) l.below) l.below those (into_iter_items l.pointer-iterator) l.initial.leaves.items l.leaves.items l.places

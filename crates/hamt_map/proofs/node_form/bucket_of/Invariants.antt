@@ -1,9 +1,12 @@
-use Rattle.std.proofs.Common.{◌≡◌, Some, take}
-use Rattle.hamt_map.specs.Pairs.{Pairs}
-use Rattle.hamt_map.specs.ReadPointers.{AreSpelled}
-use Rattle.tree_blocks.specs.Forms.{for_each}
-use Rattle.hamt_map.specs.Walk.{pair_in}
+use Rattle.std.proofs.Common.{◌≡◌, ℕ, List, length}
+use Rattle.dag_cbor.specs.declared.value.Value.{Value}
+use Rattle.hamt_map.specs.ReadPointers.{AreAt}
+use Rattle.hamt_map.proofs.NodeForm.{BucketRead}
 use Rattle.hamt_map.proofs.node_form.bucket_of.Given as goal
 
-abbrev pub invariant-loop-value : goal.invariant-loop-value
-invariant-loop-value l = (done : Pairs) × (for_each pair_in (take l.value-index l.values) ≡ Some done) × AreSpelled l.leaves.items done
+abbrev pub invariant-loop-left : goal.invariant-loop-left
+invariant-loop-left l =
+    (values : List Value) (last : List ℕ) → length values ≡ l.fn.count → AreAt 125 values l.fn.bytes last → BucketRead values l.left l.rest last l.leaves.items
+
+abbrev pub decreases-loop-left : goal.decreases-loop-left
+decreases-loop-left l = l.left

@@ -1,9 +1,12 @@
-use Rattle.std.proofs.Common.{arith}
+use Rattle.std.proofs.Common.{sym, ◌∙◌, arith}
+use Rattle.std.proofs.lemmas.List.{append-nil}
 use Rattle.hamt_map.proofs.NodeForm.{node_of_value, no_node}
 use Rattle.hamt_map.proofs.node_form.node_in.Goals as goal
 
-pub returns-in-Ok : goal.returns-in-Ok
-returns-in-Ok c = node_of_value c.args.below c.args.bytes.now c.in-Ok.value c.node_of.result c.in-Ok.ensures.found.0 c.in-Ok.ensures.found.1 c.node_of.ensures
+pub returns-then-is_value : goal.returns-then-is_value
+returns-then-is_value c =
+    let whole = c.is_value.ensures.found c.if-is_value.true in
+    node_of_value c.args.below c.args.bytes.now whole.0 c.node_of.result whole.1 whole.2 (c.node_of.ensures whole.0 (record { plain = whole.1; parts = whole.2 ∙ sym (append-nil _) }))
 
-pub returns-in-Err-Fault : goal.returns-in-Err-Fault
-returns-in-Err-Fault c = no_node c.args.below c.args.bytes.now (λ i. omega (arith, c.type_inv.bytes i)) (rw c.in-Err-Fault.field-0-is at c.in-Err-Fault.ensures.only)
+pub returns-else-is_value : goal.returns-else-is_value
+returns-else-is_value c = no_node c.args.below c.args.bytes.now (λ i. omega (arith, c.type_inv.bytes i)) (c.is_value.ensures.only c.if-is_value.false)

@@ -1,17 +1,20 @@
-use Rattle.std.proofs.Common.{◌≡◌, ◌+◌, ◌*◌, ◌++◌, All, map, length}
-use Rattle.std.specs.List.{flat_map}
-use Rattle.std.specs.Vec.Iter.{into_iter_items, into_iter_len}
-use Rattle.dag_cbor.specs.Plain.{IsPlain}
-use Rattle.hamt_map.specs.Groups.{nodes_of, pointers_of}
+use Rattle.std.proofs.Common.{◌≤◌, ◌<◌, ◌+◌, ◌*◌, ◌^◌, map, length}
+use Rattle.std.specs.Prelude.{All}
+use Rattle.tree_blocks.specs.NewBlocks.{IsNodeBlock}
+use Rattle.hamt_map.specs.HashOrder.{AreLent}
+use Rattle.hamt_map.specs.Lent.{lent_of}
+use Rattle.hamt_map.specs.Pairs.{Pairs}
+use Rattle.hamt_map.proofs.PointerSteps.{WrittenSoFar}
 use Rattle.hamt_map.proofs.nodes.+building.Given as goal
 
-abbrev pub invariant-put_pointers-loop-group : goal.invariant-put_pointers-loop-group
-invariant-put_pointers-loop-group l = record {
-  all : l.fn.groups.items ≡ l.yielded ++ into_iter_items l.group-iterator;
-  len : into_iter_len l.group-iterator ≡ length (into_iter_items l.group-iterator);
-  pointers : l.pointers.items ≡ flat_map (pointers_of l.below) (map (λ g. g.items) l.yielded);
-  plain : All (IsPlain 126) l.pointers.items;
-  under : l.nodes.items ≡ l.initial.nodes.items ++ flat_map (nodes_of l.below) (map (λ g. g.items) l.yielded);
+abbrev pub invariant-put_pointers-loop-place : goal.invariant-put_pointers-loop-place
+invariant-put_pointers-loop-place l = record {
+  done : l.done ≤ length l.pairs;
+  bits : l.pointers.bits < 2 ^ l.place;
+  count : l.pointers.count ≤ l.place;
+  cids : All IsNodeBlock l.initial.nodes.items → All IsNodeBlock l.nodes.items;
+  written : (ps : Pairs) → AreLent l.below (map lent_of l.pairs) ps
+      → WrittenSoFar l.below ps l.place l.done l.pointers.bits l.pointers.count l.pointers.spellings.items l.initial.nodes.items l.nodes.items;
 }
 
 abbrev pub decreases-put_under : goal.decreases-put_under

@@ -1,9 +1,8 @@
-use Rattle.std.proofs.Common.{◌∙◌, ap, List, ℕ}
-use Rattle.std.proofs.lemmas.Result.{on_ok_weaker}
-use Rattle.std.specs.FinMap.Entries.{put}
-use Rattle.hamt_map.specs.Pairs.{key_cmp}
+use Rattle.std.proofs.Common.{◌∙◌, Some, None, ap, refl, sym}
+use Rattle.dag_cbor.specs.Spelling.{spelled}
 use Rattle.hamt_map.proofs.Depths.{four_deeper}
-use Rattle.hamt_map.proofs.Held.{Holds-insert}
+use Rattle.hamt_map.proofs.Held.{Holds-insert, found-Holds, missing-Holds, same_value}
+use Rattle.hamt_map.proofs.PutAgain.{given_is, old_is, put_again}
 use Rattle.hamt_map.proofs.pairs.Spelled.insert.Goals as goal
 
 pub encode-requires : goal.encode-requires
@@ -12,8 +11,28 @@ encode-requires c = four_deeper 124 c.args.value.now c.requires.plain
 pub put-requires : goal.put-requires
 put-requires c = record { value = c.args.value.now; plain = c.requires.plain; same = c.into_vec.ensures ∙ c.in_ok-spelling.ensures }
 
-pub returns-clause-after : goal.returns-clause-after
-returns-clause-after c = λ m held. on_ok_weaker c.put.result (λ is.
-    Holds-insert c.args.self.now c.put.new.self m c.args.key.now c.args.value.now held c.requires.plain (
-    is ∙ ap (λ (k : List ℕ). put key_cmp k c.into_vec.result.items c.args.self.now) c.in_ok-key.ensures.items
-    ∙ ap (λ (t : List ℕ). put key_cmp c.args.key.now t c.args.self.now) (c.into_vec.ensures ∙ c.in_ok-spelling.ensures))) c.put.ensures.after
+pub returns-in_default-clause-old : goal.returns-in_default-clause-old
+returns-in_default-clause-old c = λ m held. missing-Holds c.args.self.now m c.args.key.now held (old_is c.args.key.now c.in_ok-owned.owned.items c.args.self.now _ None c.in_ok-old.ensures.old c.in_ok-owned.ensures.items c.in_default.is)
+
+pub returns-in_default-clause-after : goal.returns-in_default-clause-after
+returns-in_default-clause-after c = λ m held.
+    Holds-insert c.args.self.now c.put.new.self m c.args.key.now c.args.value.now held c.requires.plain
+    (given_is c.args.key.now c.in_ok-owned.owned.items (spelled c.args.value.now) c.into_vec.result.items c.args.self.now c.put.new.self c.in_ok-old.ensures.after c.in_ok-owned.ensures.items (c.into_vec.ensures ∙ c.in_ok-spelling.ensures))
+
+pub returns-in-Ok-clause-old : goal.returns-in-Ok-clause-old
+returns-in-Ok-clause-old c = λ m held.
+    let found = old_is c.args.key.now c.in_ok-owned.owned.items c.args.self.now _ (Some c.in-Some.old) c.in_ok-old.ensures.old c.in_ok-owned.ensures.items c.in-Some.is in
+    let there = found-Holds c.args.self.now m c.args.key.now c.in-Some.old.items held found in
+    let same = same_value 124 c.as_slice.result.now c.in-Ok.value there.0 c.in-Ok.ensures.plain c.in-Ok.ensures.value there.2 (c.as_slice.ensures.value ∙ there.3) in
+    ap Some same ∙ sym there.1
+
+pub returns-in-Ok-clause-after : goal.returns-in-Ok-clause-after
+returns-in-Ok-clause-after c = λ m held.
+    Holds-insert c.args.self.now c.put.new.self m c.args.key.now c.args.value.now held c.requires.plain
+    (given_is c.args.key.now c.in_ok-owned.owned.items (spelled c.args.value.now) c.into_vec.result.items c.args.self.now c.put.new.self c.in_ok-old.ensures.after c.in_ok-owned.ensures.items (c.into_vec.ensures ∙ c.in_ok-spelling.ensures))
+
+pub returns-in-Err-clause-unchanged : goal.returns-in-Err-clause-unchanged
+returns-in-Err-clause-unchanged c =
+    put_again c.args.key.now c.in-Some.old.items c.into_vec.result.items c.args.self.now c.put.new.self c.put_back.new.self c.in_ok-old.ensures.held.0 c.in_ok-old.ensures.held.1
+    (old_is c.args.key.now c.in_ok-owned.owned.items c.args.self.now _ (Some c.in-Some.old) c.in_ok-old.ensures.old c.in_ok-owned.ensures.items c.in-Some.is)
+    (given_is c.args.key.now c.in_ok-owned.owned.items c.into_vec.result.items c.into_vec.result.items c.args.self.now c.put.new.self c.in_ok-old.ensures.after c.in_ok-owned.ensures.items refl) c.put_back.ensures

@@ -1,12 +1,14 @@
-use Rattle.std.proofs.Common.{◌≡◌, ◌++◌, length}
-use Rattle.std.specs.FinMap.{from_entries}
-use Rattle.hamt_map.specs.Holds.{FitNodes, Holds, spellings}
+use Rattle.std.proofs.Common.{◌≡◌, ◌≤◌, length, take}
+use Rattle.hamt_map.specs.Holds.{FitNodes, spellings}
 use Rattle.hamt_map.specs.Pairs.{Pairs}
 use Rattle.hamt_map.proofs.Merging.{TakenBack}
 use Rattle.hamt_map.proofs.pairs.Spelled.of_leaves.Given as goal
 
-abbrev pub invariant-loop-leaf : goal.invariant-loop-leaf
-invariant-loop-leaf l = (all : Pairs) → l.fn.leaves.items ≡ spellings all → FitNodes all → TakenBack all l.left.items l.pairs
+abbrev pub invariant-loop-left : goal.invariant-loop-left
+invariant-loop-left l = record {
+  within : l.left ≤ length l.leaves;
+  taken : (all : Pairs) → l.leaves ≡ spellings all → FitNodes all → TakenBack all (take l.left l.leaves) l.pairs;
+}
 
-abbrev pub decreases-loop-leaf : goal.decreases-loop-leaf
-decreases-loop-leaf l = length l.left.items
+abbrev pub decreases-loop-left : goal.decreases-loop-left
+decreases-loop-left l = l.left
