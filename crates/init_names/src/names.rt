@@ -59,6 +59,21 @@ impl Names {
         })
     }
 
+    /// The same names, with the same next ID and network.
+    pub fn copy(&self) -> Mem<Names>
+        ensures { (blocks : List BlockParts) (s : InitState) → Stands self.now blocks s
+            → IfOk result (λ copy. Stands copy blocks s) }
+    {
+        let tree = self.tree.copy()?;
+        let network = Bytes::copy_of(self.alloc, self.network.as_slice())?;
+        Ok(Names {
+            alloc: self.alloc,
+            tree,
+            next: self.next,
+            network: Network::of(network),
+        })
+    }
+
     /// The ID that an address names. An ID address names its own.
     pub fn resolve<B: BlockSource>(&self, base: &B, address: &Address) -> Mem<Option<ActorId>>
         ensures { (s : InitState) → Stands self.now (B.blocks base.now) s

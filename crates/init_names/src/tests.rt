@@ -147,6 +147,18 @@ fn an_id_names_itself(rt: HostRuntime) -> Result<(), Fail> {
 }
 
 #[test]
+fn a_copy_is_changed_alone(rt: HostRuntime) -> Result<(), Fail> {
+    let base = base_of(rt, NO_NAMES, EMPTY)?;
+    let names = loaded(rt, &base)?;
+    let mut copy = names.copy()?;
+    assigned(&mut copy, &base, &MADE)?;
+    assert_eq!(rt; copy.next().number(), 101);
+    assert_eq!(rt; names.next().number(), 100);
+    assert!(rt; names.resolve(&base, &MADE)?.is_none());
+    Ok(())
+}
+
+#[test]
 fn a_state_is_flushed(rt: HostRuntime) -> Result<(), Fail> {
     let base = base_of(rt, NO_NAMES, EMPTY)?;
     let mut names = loaded(rt, &base)?;

@@ -1,5 +1,5 @@
 -- What the calls of a tree give.
-use Rattle.std.proofs.Common.{◌≡◌, ℕ, zero, suc, ◌+◌, ◌^◌, ◌<◌, List, [], ◌∷◌, ◌++◌, Bool, true, false, cond, length, map, take, get_or, Option, Some, None, Result, Ok, Err, IfOk, nat_eq, refl, sym, ap, subst, ◌∙◌, arith}
+use Rattle.std.proofs.Common.{◌≡◌, ℕ, zero, suc, ◌+◌, ◌^◌, ◌<◌, List, [], ◌∷◌, ◌++◌, Bool, true, false, cond, length, map, take, get_or, Option, Some, None, Result, Ok, Err, IfOk, OnErr, nat_eq, refl, sym, ap, subst, ◌∙◌, arith}
 use Rattle.std.proofs.lemmas.Bool.Decides.{nat_tests}
 use Rattle.std.proofs.lemmas.List.{get_or-map, get_or-take, length-map, length-take, take_more}
 use Rattle.std.proofs.lemmas.Map.Keys.{apart_from_distinct}
@@ -16,25 +16,82 @@ use Rattle.cid_core.specs.BlockParts.{BlockParts}
 use Rattle.dag_cbor.specs.declared.value.Value.{Value}
 use Rattle.hamt_map.specs.Pairs.{Map, Pairs}
 use Rattle.hamt_map.specs.Stands as hamt
+use Rattle.hamt_map.specs.declared.hamt.Hamt.{Hamt}
 use Rattle.state_tree.specs.Actors.{Actors, AreActors, IsActor, actor_record, balances, id_key, records}
 use Rattle.state_tree.specs.ActorPairs.{balance_in, is_below}
 use Rattle.state_tree.specs.Reading.{actor_in, id_in}
+use Rattle.state_tree.specs.Over.{over}
 use Rattle.state_tree.specs.Stands.{Stands}
 use Rattle.state_tree.specs.declared.actor.Actor.{Actor}
 use Rattle.state_tree.specs.declared.state_tree.StateTree.{StateTree}
 use Rattle.state_tree.proofs.FindRecords.{AreActors-empty, AreActors-insert, AreActors-remove, found_is_actor, get-records, records-empty, records-insert, records-remove}
 use Rattle.state_tree.proofs.Over.{balances_of_records, ids_of_records}
+use Rattle.state_tree.proofs.Overlay.{AreActors-over, found_above, found_below, over_insert, over_nothing, over_remove}
 use Rattle.state_tree.proofs.RecordRead.{actor_of_record}
 
 -- ---- what a tree stands for
 
-pub stands_for : (tree : StateTree) (blocks : List BlockParts) (actors : Actors) (info : CidParts) (m : Map) → hamt.Stands tree.tree blocks m → m ≡ records actors → AreActors actors → tree.info ≡ info
-    → Stands tree blocks actors info
+-- nothing was changed
+pub stands_for : (tree : StateTree) (blocks : List BlockParts) (actors : Actors) (info : CidParts) (m : Map) → hamt.Stands tree.tree blocks m → m ≡ records actors → AreActors actors → tree.changed ≡ empty
+    → tree.info ≡ info → Stands tree blocks actors info
 unfolding Stands
-stands_for tree blocks actors info m stands is are kept = (subst (hamt.Stands tree.tree blocks) is stands, are, kept)
+stands_for tree blocks actors info m stands is are none kept =
+    (actors, subst (hamt.Stands tree.tree blocks) is stands, are, subst AreActors (sym none) AreActors-empty, sym (ap (λ (c : Actors). over c actors) none ∙ over_nothing actors), kept)
 
-pub stands_for_none : (tree : StateTree) (blocks : List BlockParts) (info : CidParts) → hamt.Stands tree.tree blocks empty → tree.info ≡ info → Stands tree blocks empty info
-stands_for_none tree blocks info stands kept = stands_for tree blocks empty info empty stands (sym records-empty) AreActors-empty kept
+pub stands_for_none : (tree : StateTree) (blocks : List BlockParts) (info : CidParts) → hamt.Stands tree.tree blocks empty → tree.changed ≡ empty → tree.info ≡ info → Stands tree blocks empty info
+stands_for_none tree blocks info stands none kept = stands_for tree blocks empty info empty stands (sym records-empty) AreActors-empty none kept
+
+pub stands_copied : (tree copy : StateTree) (blocks : List BlockParts) (actors : Actors) (info : CidParts) → Stands tree blocks actors info
+    → ((m : Map) → hamt.Stands tree.tree blocks m → hamt.Stands copy.tree blocks m) → copy.changed ≡ tree.changed → copy.info ≡ tree.info → Stands copy blocks actors info
+unfolding Stands
+stands_copied tree copy blocks actors info (kept, stands, are, are-changed, is, same) step changed linked =
+    (kept, step (records kept) stands, are, subst AreActors (sym changed) are-changed, is ∙ sym (ap (λ (c : Actors). over c kept) changed), linked ∙ same)
+
+pub are_of : (tree : StateTree) (blocks : List BlockParts) (actors : Actors) (info : CidParts) → Stands tree blocks actors info → AreActors actors
+unfolding Stands
+are_of tree blocks actors info (kept, stands, are, are-changed, is, same) = subst AreActors (sym is) (AreActors-over tree.changed kept are-changed are)
+
+-- nothing was changed: the tree has the records of all
+pub unchanged_records : (tree : StateTree) (blocks : List BlockParts) (actors : Actors) (info : CidParts) → Stands tree blocks actors info → tree.changed ≡ empty → hamt.Stands tree.tree blocks (records actors)
+unfolding Stands
+unchanged_records tree blocks actors info (kept, stands, are, are-changed, is, same) none =
+    subst (λ (m : Actors). hamt.Stands tree.tree blocks (records m)) (sym (is ∙ ap (λ (c : Actors). over c kept) none ∙ over_nothing kept)) stands
+
+pub pairs_and_actors : {E : Type 0} (result : Result Pairs E) (actors : Actors) → AreActors actors → IfOk result (λ pairs. pairs ≡ entries (records actors)) → IfOk result (λ pairs. (pairs ≡ entries (records actors)) × AreActors actors)
+pairs_and_actors (Ok pairs) actors are is = (is, are)
+pairs_and_actors (Err e) actors are is = tt
+
+pub on_err_any : {A E P : Type 0} (result : Result A E) → P → OnErr result P
+on_err_any (Ok x) p = tt
+on_err_any (Err e) p = p
+
+pub info_of : (tree : StateTree) (blocks : List BlockParts) (actors : Actors) (info : CidParts) → Stands tree blocks actors info → tree.info ≡ info
+unfolding Stands
+info_of tree blocks actors info stands = stands.5
+
+-- the changed actors are written
+pub settled_records : (tree : StateTree) (after : Hamt) (blocks : List BlockParts) (actors : Actors) (info : CidParts) → Stands tree blocks actors info
+    → ((kept : Actors) → AreActors kept → hamt.Stands tree.tree blocks (records kept) → hamt.Stands after blocks (records (over tree.changed kept))) → hamt.Stands after blocks (records actors)
+unfolding Stands
+settled_records tree after blocks actors info (kept, stands, are, are-changed, is, same) step =
+    subst (λ (m : Actors). hamt.Stands after blocks (records m)) (sym is) (step kept are stands)
+
+-- some of them are
+pub stands_partly : (tree after : StateTree) (blocks : List BlockParts) (actors : Actors) (info : CidParts) → Stands tree blocks actors info
+    → ((kept : Actors) → AreActors kept → hamt.Stands tree.tree blocks (records kept)
+    → (written : Actors) × AreActors written × hamt.Stands after.tree blocks (records written) × (over tree.changed written ≡ over tree.changed kept))
+    → after.changed ≡ tree.changed → after.info ≡ tree.info → Stands after blocks actors info
+unfolding Stands
+stands_partly tree after blocks actors info (kept, stands, are, are-changed, is, same) step changed linked =
+    let there = step kept are stands in
+    (there.0, there.2, there.1, subst AreActors (sym changed) are-changed, is ∙ sym there.3 ∙ sym (ap (λ (c : Actors). over c there.0) changed), linked ∙ same)
+
+-- the changed actors are written and forgotten
+pub stands_settled : (tree after : StateTree) (blocks : List BlockParts) (actors : Actors) (info : CidParts) → Stands tree blocks actors info
+    → hamt.Stands after.tree blocks (records actors) → after.changed ≡ empty → after.info ≡ tree.info → Stands after blocks actors info
+unfolding Stands
+stands_settled tree after blocks actors info stands written none linked =
+    stands_for after blocks actors info (records actors) written refl (are_of tree blocks actors info stands) none (linked ∙ stands.5)
 
 -- ---- one actor
 
@@ -58,24 +115,49 @@ pub actor_missing : (actors : Actors) (id : ℕ) (key : List ℕ) (o : Option Va
 actor_missing actors id key o are small is found there =
     none_read (get actors id) (sym there ∙ found ∙ ap (get (records actors)) is ∙ get-records actors id small are)
 
+-- an actor that was changed
+pub changed_found : (tree : StateTree) (blocks : List BlockParts) (actors : Actors) (info : CidParts) (id : ℕ) (o : Option Actor) (a : Actor) → Stands tree blocks actors info → o ≡ get tree.changed id → o ≡ Some a → Some a ≡ get actors id
+unfolding Stands
+changed_found tree blocks actors info id o a (kept, stands, are, are-changed, is, same) found some = found_above tree.changed kept actors id o a is found some
+
+-- an actor that was not
+pub written_found : (tree : StateTree) (blocks : List BlockParts) (actors : Actors) (info : CidParts) (id : ℕ) (o : Option Actor) {E : Type 0} (result : Result (Option Actor) E) → Stands tree blocks actors info → o ≡ get tree.changed id → o ≡ None
+    → ((kept : Actors) → AreActors kept → hamt.Stands tree.tree blocks (records kept) → IfOk result (λ a. a ≡ get kept id)) → IfOk result (λ a. a ≡ get actors id)
+unfolding Stands
+written_found tree blocks actors info id o result (kept, stands, are, are-changed, is, same) found none read =
+    subst (λ (x : Option Actor). IfOk result (λ a. a ≡ x)) (found_below tree.changed kept actors id o is found none) (read kept are stands)
+
 -- ---- changes
 
-pub stands_with : (tree after : StateTree) (blocks : List BlockParts) (actors : Actors) (info : CidParts) (id : ℕ) (a : Actor) (key : List ℕ) (value : Value) → Stands tree blocks actors info → id < 2 ^ 63
-    → IsActor a → key ≡ id_key id → value ≡ actor_record a → (hamt.Stands tree.tree blocks (records actors) → hamt.Stands after.tree blocks (insert (records actors) key value)) → after.info ≡ tree.info
-    → Stands after blocks (insert actors id a) info
+-- the record of one more actor is written
+pub record_written : (kept : Actors) (before after : Hamt) (blocks : List BlockParts) (id : ℕ) (a : Actor) (key : List ℕ) (value : Value) → AreActors kept → id < 2 ^ 63 → IsActor a → key ≡ id_key id → value ≡ actor_record a
+    → hamt.Stands before blocks (records kept) → ((m : Map) → hamt.Stands before blocks m → hamt.Stands after blocks (insert m key value)) → hamt.Stands after blocks (records (insert kept id a))
+record_written kept before after blocks id a key value are small is key-is value-is stands step =
+    subst (hamt.Stands after blocks) ((λ i. insert (records kept) (key-is i) (value-is i)) ∙ sym (records-insert kept id a small is are)) (step (records kept) stands)
+
+pub stands_with : (tree after : StateTree) (blocks : List BlockParts) (actors : Actors) (info : CidParts) (id : ℕ) (a : Actor) → Stands tree blocks actors info → id < 2 ^ 63
+    → IsActor a → after.changed ≡ insert tree.changed id a → after.tree ≡ tree.tree → after.info ≡ tree.info → Stands after blocks (insert actors id a) info
 unfolding Stands
-stands_with tree after blocks actors info id a key value (stands, are, kept) small is key-is value-is step same =
-    stands_for after blocks (insert actors id a) info (insert (records actors) key value) (step stands)
-    ((λ i. insert (records actors) (key-is i) (value-is i)) ∙ sym (records-insert actors id a small is are))
-    (AreActors-insert actors id a small is are) (same ∙ kept)
+stands_with tree after blocks actors info id a (kept, stands, are, are-changed, is, same) small is-actor changed untouched linked = (
+  kept,
+  subst (λ (t : Hamt). hamt.Stands t blocks (records kept)) (sym untouched) stands,
+  are,
+  subst AreActors (sym changed) (AreActors-insert tree.changed id a small is-actor are-changed),
+  ap (λ (m : Actors). insert m id a) is ∙ over_insert tree.changed kept id a ∙ sym (ap (λ (c : Actors). over c kept) changed),
+  linked ∙ same,
+)
 
 pub stands_without : (tree after : StateTree) (blocks : List BlockParts) (actors : Actors) (info : CidParts) (id : ℕ) (key : List ℕ) → Stands tree blocks actors info → id < 2 ^ 63
-    → key ≡ id_key id → (hamt.Stands tree.tree blocks (records actors) → hamt.Stands after.tree blocks (remove (records actors) key)) → after.info ≡ tree.info → Stands after blocks (remove actors id) info
+    → key ≡ id_key id → ((m : Map) → hamt.Stands tree.tree blocks m → hamt.Stands after.tree blocks (remove m key)) → after.changed ≡ remove tree.changed id → after.info ≡ tree.info → Stands after blocks (remove actors id) info
 unfolding Stands
-stands_without tree after blocks actors info id key (stands, are, kept) small key-is step same =
-    stands_for after blocks (remove actors id) info (remove (records actors) key) (step stands)
-    ((λ i. remove (records actors) (key-is i)) ∙ sym (records-remove actors id small are))
-    (AreActors-remove actors id are) (same ∙ kept)
+stands_without tree after blocks actors info id key (kept, stands, are, are-changed, is, same) small key-is step changed linked = (
+  remove kept id,
+  subst (hamt.Stands after.tree blocks) ((λ i. remove (records kept) (key-is i)) ∙ sym (records-remove kept id small are)) (step (records kept) stands),
+  AreActors-remove kept id are,
+  subst AreActors (sym changed) (AreActors-remove tree.changed id are-changed),
+  ap (λ (m : Actors). remove m id) is ∙ over_remove tree.changed kept id ∙ sym (ap (λ (c : Actors). over c (remove kept id)) changed),
+  linked ∙ same,
+)
 
 -- ---- all actors
 

@@ -123,7 +123,7 @@ turned : {A : Type 0} (b : Bool) (x y : A) → cond (not b) x y ≡ cond b y x
 turned true x y = refl
 turned false x y = refl
 
-entries-remove : (actors : Actors) (id : ℕ) → entries (remove actors id) ≡ where_key nat_cmp (λ a. not (eq_by_cmp nat_cmp id a)) (entries actors)
+pub entries-remove : (actors : Actors) (id : ℕ) → entries (remove actors id) ≡ where_key nat_cmp (λ a. not (eq_by_cmp nat_cmp id a)) (entries actors)
 entries-remove actors id =
     let kept : List (ℕ × Actor) = where_key nat_cmp (λ a. not (eq_by_cmp nat_cmp id a)) (entries actors) in
     let in_order : T (is_sorted nat_cmp kept) = is_sorted-where_key nat_cmp (λ a. not (eq_by_cmp nat_cmp id a)) (entries actors) (finmap.entries_sorted actors) in
@@ -161,7 +161,7 @@ get-records actors id small are = get-records-any actors (id_key id) are ∙ ap 
 
 -- ---- no actors
 
-no_entries : entries (empty {K = ℕ} {X = Actor} {R = nat_cmp}) ≡ []
+pub no_entries : entries (empty {K = ℕ} {X = Actor} {R = nat_cmp}) ≡ []
 no_entries = nil_from_length _ (sym (finmap.len-entries (empty {R = nat_cmp})) ∙ finmap.len-empty nat_cmp Actor)
 
 pub AreActors-empty : AreActors empty

@@ -3,6 +3,7 @@ pub mod RecordRead
 pub mod PlainRecord
 pub mod FindRecords
 pub mod Over
+pub mod Overlay
 pub mod PairTests
 pub mod Calls
 pub mod LoadSteps

@@ -2,7 +2,7 @@
 use Rattle.std.proofs.Common.{◌≡◌, ℕ, List, Bool, true, false, Option, Some, None, Result, Ok, Err, IfErr, refl, sym, ap, subst, ◌∙◌}
 use Rattle.std.proofs.lemmas.Result.{err_from_is_err_and}
 use Rattle.std.specs.Prelude.{IsErrAnd}
-use Rattle.std.specs.FinMap.{entries, from_entries}
+use Rattle.std.specs.FinMap.{empty, entries, from_entries}
 use Rattle.fil_base.specs.CidParts.{CidParts}
 use Rattle.fil_base.specs.Failure.{IfFault}
 use Rattle.fil_base.specs.declared.failure.Failure.{Failure}
@@ -81,9 +81,9 @@ all_read blocks root codes links actors is under own =
 
 -- a tree whose pairs are keys with records stands for the actors
 pub tree_of_actors : (tree : StateTree) (blocks : List BlockParts) (root info : CidParts) (m : Map) (pairs : Pairs) (b : Bool) → hamt_at blocks root ≡ Ok m → hamt.Stands tree.tree blocks m → pairs ≡ entries m
-    → IfPairs b pairs → b ≡ true → tree.info ≡ info → (actors : Actors) × (actors_under blocks root ≡ Ok actors) × Stands tree blocks actors info
-tree_of_actors tree blocks root info m pairs true walked stands is (es, read, are) yes_it_is kept =
+    → IfPairs b pairs → b ≡ true → tree.changed ≡ empty → tree.info ≡ info → (actors : Actors) × (actors_under blocks root ≡ Ok actors) × Stands tree blocks actors info
+tree_of_actors tree blocks root info m pairs true walked stands is (es, read, are) yes_it_is unchanged kept =
     let same = sym is ∙ pairs_of_actors pairs es read in
     let known = ap (λ (ps : Pairs). for_each pair_in ps) (sym is) ∙ read in
-    (from_entries es, rw (walked, known) refl, stands_for tree blocks (from_entries es) info m stands (map_of_records m es are same) (AreActors-from_entries es are) kept)
-tree_of_actors tree blocks root info m pairs false walked stands is none yes_it_is kept = absurd (cc)
+    (from_entries es, rw (walked, known) refl, stands_for tree blocks (from_entries es) info m stands (map_of_records m es are same) (AreActors-from_entries es are) unchanged kept)
+tree_of_actors tree blocks root info m pairs false walked stands is none yes_it_is unchanged kept = absurd (cc)

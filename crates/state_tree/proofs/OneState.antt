@@ -9,8 +9,10 @@ use Rattle.std.specs.Option.{option_map}
 use Rattle.fil_base.specs.CidParts.{CidParts}
 use Rattle.cid_core.specs.BlockParts.{BlockParts}
 use Rattle.hamt_map.specs.Stands as hamt
-use Rattle.hamt_map.proofs.Held as held
+use Rattle.hamt_map.specs.Pairs.{Map}
+use Rattle.hamt_map.specs.declared.hamt.Hamt.{Hamt}
 use Rattle.state_tree.specs.Actors.{Actors, AreActors, IsActor, actor_record, id_key, records}
+use Rattle.state_tree.specs.Over.{over}
 use Rattle.state_tree.specs.Stands.{Stands}
 use Rattle.state_tree.specs.declared.actor.Actor.{Actor}
 use Rattle.state_tree.specs.declared.state_tree.StateTree.{StateTree}
@@ -35,7 +37,8 @@ one_record a b are-a are-b is = finmap.same_map nat_cmp_total finmap.nat_cmp-IsA
       | inr great ↦ none_from_2_to_the_63 a id are-a great ∙ sym (none_from_2_to_the_63 b id are-b great)
     ])
 
-pub one_state : (tree : StateTree) (blocks : List BlockParts) (a b : Actors) (i j : CidParts) → Stands tree blocks a i → Stands tree blocks b j → (a ≡ b) × (i ≡ j)
-unfolding Stands hamt.Stands
-one_state tree blocks a b i j (stands-a, are-a, kept-i) (stands-b, are-b, kept-j) =
-    (one_record a b are-a are-b (held.one_map _ (records a) (records b) stands-a stands-b), sym kept-i ∙ kept-j)
+-- where a tree of pairs stands for one map at most
+pub one_state : ((tree : Hamt) (blocks : List BlockParts) (m n : Map) → hamt.Stands tree blocks m → hamt.Stands tree blocks n → m ≡ n) → (tree : StateTree) (blocks : List BlockParts) (a b : Actors) (i j : CidParts) → Stands tree blocks a i → Stands tree blocks b j → (a ≡ b) × (i ≡ j)
+unfolding Stands
+one_state one tree blocks a b i j (kept-a, stands-a, are-a, own-a, over-a, linked-i) (kept-b, stands-b, are-b, own-b, over-b, linked-j) =
+    (over-a ∙ ap (over tree.changed) (one_record kept-a kept-b are-a are-b (one tree.tree blocks (records kept-a) (records kept-b) stands-a stands-b)) ∙ sym over-b, sym linked-i ∙ linked-j)

@@ -1,5 +1,6 @@
 pub mod ActorPairs
 pub mod Actors
 pub mod ActorsTree
+pub mod Over
 pub mod Reading
 pub mod Stands

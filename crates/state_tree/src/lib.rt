@@ -9,6 +9,7 @@
 #![tactic(auto)]
 
 mod actor;
+mod changed;
 mod key;
 mod laws;
 mod pairs;

@@ -5,19 +5,23 @@ ghost use Rattle.cid_core.specs.BlockParts.{BlockParts};
 ghost use Rattle.fil_base.specs.CidParts.{CidParts};
 ghost use Rattle.fil_base.specs.Failure.{IfFault};
 ghost use Rattle.fil_base.specs.declared.token.TheConstants.{GREATEST_AMOUNT};
+ghost use Rattle.hamt_map.specs.Node.{hamt_nodes, hamt_root};
+ghost use Rattle.hamt_map.specs.Stands as hamt;
 ghost use Rattle.tree_blocks.specs.NewBlocks.{new_blocks};
-ghost use Rattle.state_tree.specs.Actors.{Actors, balances};
+ghost use Rattle.state_tree.specs.Actors.{Actors, AreActors, balances, records};
 ghost use Rattle.state_tree.specs.ActorsTree.{actors_nodes, actors_root};
 ghost use Rattle.state_tree.specs.Reading.{actors_at, actors_under, has_code, with_own_actors};
 ghost use Rattle.state_tree.specs.Stands.{Stands};
 
 use crate::actor::Actor;
+use crate::changed::Changed;
 use crate::key::key_of;
 use crate::pairs::{are_actors, are_below, are_within};
-use crate::record::{actor_in, record_of};
+use crate::record::actor_in;
 use crate::root::{RootLinks, read_root, root_block};
 use cid_core::{Block, BlockSource};
-use fil_base::{ActorId, Cid, Failure, Mem, Row};
+use dag_cbor::Value;
+use fil_base::{ActorId, Bytes, Cid, Failure, Mem, Row};
 use gas_prices::Codes;
 use hamt_map::{Hamt, StateFault};
 use std::alloc::Global;
@@ -39,11 +43,16 @@ const BURNT_FUNDS: u64 = 99;
 #[derive(Drop)]
 pub struct StateTree {
     alloc: Global,
+
+    /// The records of the actors as they were last written.
     tree: Hamt,
+
+    /// The actors that were put since then: they lie over those of the tree.
+    changed: Changed,
+
     info: Cid,
 }
 
-#[tactic(auto, unfolding(crate::specs::Stands::Stands))]
 impl StateTree {
     /// No actors.
     fn empty(alloc: Global, info: Cid) -> StateTree
@@ -52,8 +61,25 @@ impl StateTree {
         StateTree {
             alloc,
             tree: Hamt::empty(alloc),
+            changed: Changed::none(alloc),
             info,
         }
+    }
+
+    /// A tree of the same actors and the same link.
+    pub fn copy(&self) -> Mem<StateTree>
+        ensures { (blocks : List BlockParts) (actors : Actors) (info : CidParts) → Stands self.now blocks actors info
+            → IfOk result (λ copy. Stands copy blocks actors info) }
+    {
+        let tree = self.tree.copy()?;
+        let changed = self.changed.copy(self.alloc)?;
+        let info = self.info.copy(self.alloc)?;
+        Ok(StateTree {
+            alloc: self.alloc,
+            tree,
+            changed,
+            info,
+        })
     }
 
     /// The actors of the state under a root. Faults in order: of the root's block (`Missing`, `Form`), `Version` where
@@ -95,7 +121,12 @@ impl StateTree {
         };
         let pairs = tree.pairs(base)?;
         if are_actors(pairs.as_slice()) {
-            Ok(StateTree { alloc, tree, info })
+            Ok(StateTree {
+                alloc,
+                tree,
+                changed: Changed::none(alloc),
+                info,
+            })
         } else {
             Err(StateFault::form(alloc, &actors))
         }
@@ -150,6 +181,18 @@ impl StateTree {
         ensures { (actors : Actors) (info : CidParts) → Stands self.now (B.blocks base.now) actors info
             → IfOk result (λ actor. actor ≡ get actors id) }
     {
+        match self.changed.actor(self.alloc, id)? {
+            Some(actor) => Ok(Some(actor)),
+            None => self.written_actor(base, id),
+        }
+    }
+
+    /// The actor of the ID of this number as it was last written.
+    fn written_actor<B: BlockSource>(&self, base: &B, id: u64) -> Mem<Option<Actor>>
+        requires { id < 2 ^ 63 }
+        ensures { (kept : Actors) → AreActors kept → hamt.Stands self.now.tree (B.blocks base.now) (records kept)
+            → IfOk result (λ actor. actor ≡ get kept id) }
+    {
         let key = key_of(self.alloc, id)?;
         match self.tree.get(base, &key)? {
             Some(value) => actor_in(self.alloc, &value),
@@ -164,9 +207,7 @@ impl StateTree {
         ensures unchanged { (actors : Actors) (info : CidParts) → Stands self.old (B.blocks base.now) actors info
             → OnErr result (Stands self.new (B.blocks base.now) actors info) }
     {
-        let key = key_of(self.alloc, id.number())?;
-        let record = record_of(self.alloc, actor)?;
-        self.tree.set(base, &key, record)?;
+        self.changed.insert(id.number(), actor)?;
         Ok(())
     }
 
@@ -179,6 +220,7 @@ impl StateTree {
     {
         let key = key_of(self.alloc, id.number())?;
         self.tree.remove(base, &key)?;
+        self.changed.remove(id.number());
         Ok(())
     }
 
@@ -187,7 +229,7 @@ impl StateTree {
         ensures { (actors : Actors) (info : CidParts) → Stands self.now (B.blocks base.now) actors info
             → IfOk result (λ all. all ≡ list_all (λ e. nat_lt e.0 next) (entries actors)) }
     {
-        let pairs = self.tree.pairs(base)?;
+        let pairs = self.pairs(base)?;
         Ok(are_below(pairs.as_slice(), next))
     }
 
@@ -196,8 +238,44 @@ impl StateTree {
         ensures { (actors : Actors) (info : CidParts) → Stands self.now (B.blocks base.now) actors info
             → IfOk result (λ within. within ≡ nat_le (balances actors + awards) GREATEST_AMOUNT) }
     {
-        let pairs = self.tree.pairs(base)?;
+        let pairs = self.pairs(base)?;
         Ok(are_within(pairs.as_slice(), awards))
+    }
+
+    /// The keys and the records of all actors, by rising key.
+    fn pairs<B: BlockSource>(&self, base: &B) -> Mem<Row<(Bytes, Value)>>
+        ensures { (actors : Actors) (info : CidParts) → Stands self.now (B.blocks base.now) actors info
+            → IfOk result (λ pairs. (pairs ≡ entries (records actors)) × AreActors actors) }
+    {
+        if self.changed.is_none() {
+            return self.tree.pairs(base);
+        }
+        let tree = self.settled(base)?;
+        tree.pairs(base)
+    }
+
+    /// A tree of the records of all actors.
+    fn settled<B: BlockSource>(&self, base: &B) -> Mem<Hamt>
+        ensures { (actors : Actors) (info : CidParts) → Stands self.now (B.blocks base.now) actors info
+            → IfOk result (λ tree. hamt.Stands tree (B.blocks base.now) (records actors) × AreActors actors) }
+    {
+        let mut tree = self.tree.copy()?;
+        self.changed.write_into(self.alloc, &mut tree)?;
+        Ok(tree)
+    }
+
+    /// Writes the actors that were changed into the tree.
+    fn settle<B: BlockSource>(&mut self, base: &B) -> Mem<()>
+        ensures written { (actors : Actors) (info : CidParts) → Stands self.old (B.blocks base.now) actors info
+            → OnOk result (hamt.Stands self.new.tree (B.blocks base.now) (records actors)) }
+        ensures none { OnOk result (self.new.changed ≡ empty) }
+        ensures info { self.new.info ≡ self.old.info }
+        ensures after { (actors : Actors) (info : CidParts) → Stands self.old (B.blocks base.now) actors info
+            → Stands self.new (B.blocks base.now) actors info }
+    {
+        self.changed.write_into(self.alloc, &mut self.tree)?;
+        self.changed = Changed::none(self.alloc);
+        Ok(())
     }
 
     /// The state's root, and the nodes of the actors' tree and the root's block that the base does not hold, each once:
@@ -210,12 +288,27 @@ impl StateTree {
         ensures after { (actors : Actors) (info : CidParts) → Stands self.old (B.blocks base.now) actors info
             → Stands self.new (B.blocks base.now) actors info }
     {
-        let (actors, nodes) = self.tree.flush(base)?;
+        let (actors, nodes) = self.flush_actors(base)?;
         let block = root_block(self.alloc, actors, &self.info)?;
         let root = block.cid().copy(self.alloc)?;
         let mut new = nodes.into_vec();
         put_new(base, &mut new, block)?;
         Ok((root, Row::of(new)))
+    }
+
+    /// The root of the actors' tree, and its nodes that the base does not hold.
+    fn flush_actors<B: BlockSource>(&mut self, base: &B) -> Mem<(Cid, Row<Block>)>
+        ensures root { (actors : Actors) (info : CidParts) → Stands self.old (B.blocks base.now) actors info
+            → IfOk result (λ r. r.0 ≡ hamt_root (records actors)) }
+        ensures nodes { (actors : Actors) (info : CidParts) → Stands self.old (B.blocks base.now) actors info
+            → IfOk result (λ r. r.1 ≡ new_blocks (B.blocks base.now) (hamt_nodes (records actors))) }
+        ensures info { (actors : Actors) (info : CidParts) → Stands self.old (B.blocks base.now) actors info
+            → self.new.info ≡ info }
+        ensures after { (actors : Actors) (info : CidParts) → Stands self.old (B.blocks base.now) actors info
+            → Stands self.new (B.blocks base.now) actors info }
+    {
+        self.settle(base)?;
+        self.tree.flush(base)
     }
 
     /// Puts actors of distinct IDs into a tree of none.

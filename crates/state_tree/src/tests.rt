@@ -1,6 +1,6 @@
 use crate::state_tree::{StateTree, state_blocks};
 use crate::test_states::{TwoBlocks, account, block, cid, codes, id};
-use fil_base::Row;
+use fil_base::{Cid, Row};
 use std::test::Fail;
 
 // The blocks are by a Python program that spells HAMTs and DAG-CBOR by itself, with `hashlib`. The tree of the actors 1
@@ -62,8 +62,19 @@ fn nonce_of(tree: &StateTree, base: &TwoBlocks, number: u64) -> Result<Option<u6
 }
 
 fn put_300(rt: HostRuntime, tree: &mut StateTree, base: &TwoBlocks) -> Result<(), Fail> {
-    let actor = account(rt, 7, 5)?;
-    tree.put_actor(base, id(300)?, actor)?;
+    put_account(rt, tree, base, 300, 7)
+}
+
+// An account with a balance of 5.
+fn put_account(
+    rt: HostRuntime,
+    tree: &mut StateTree,
+    base: &TwoBlocks,
+    number: u64,
+    nonce: u64,
+) -> Result<(), Fail> {
+    let actor = account(rt, nonce, 5)?;
+    tree.put_actor(base, id(number)?, actor)?;
     Ok(())
 }
 
@@ -77,6 +88,73 @@ fn actors_are_put_read_and_deleted(rt: HostRuntime) -> Result<(), Fail> {
     assert_eq!(rt; nonce_of(&tree, &base, 300)?, Some(7));
     tree.delete_actor(&base, id(300)?)?;
     assert_eq!(rt; nonce_of(&tree, &base, 300)?, None);
+    Ok(())
+}
+
+#[test]
+fn a_copy_is_changed_alone(rt: HostRuntime) -> Result<(), Fail> {
+    let base = three(rt)?;
+    let tree = loaded(rt, &base)?;
+    let mut copy = tree.copy()?;
+    put_300(rt, &mut copy, &base)?;
+    assert_eq!(rt; nonce_of(&copy, &base, 300)?, Some(7));
+    assert_eq!(rt; nonce_of(&tree, &base, 300)?, None);
+    Ok(())
+}
+
+// A tree with a new account 99, and a copy of it.
+fn copied(rt: HostRuntime, base: &TwoBlocks) -> Result<(StateTree, StateTree), Fail> {
+    let mut tree = loaded(rt, base)?;
+    put_account(rt, &mut tree, base, 99, 4)?;
+    let copy = tree.copy()?;
+    Ok((tree, copy))
+}
+
+#[test]
+fn a_copy_keeps_what_was_put(rt: HostRuntime) -> Result<(), Fail> {
+    let base = three(rt)?;
+    let (mut tree, copy) = copied(rt, &base)?;
+    tree.delete_actor(&base, id(99)?)?;
+    assert_eq!(rt; nonce_of(&copy, &base, 99)?, Some(4));
+    Ok(())
+}
+
+// With new accounts 99 and 300.
+fn flushed(rt: HostRuntime, base: &TwoBlocks) -> Result<(StateTree, Cid), Fail> {
+    let mut tree = loaded(rt, base)?;
+    put_300(rt, &mut tree, base)?;
+    put_account(rt, &mut tree, base, 99, 4)?;
+    let (root, _) = tree.flush(base)?;
+    Ok((tree, root))
+}
+
+// The root of the same actors, put in another order.
+fn root_again(rt: HostRuntime, base: &TwoBlocks) -> Result<Cid, Fail> {
+    let mut tree = loaded(rt, base)?;
+    put_account(rt, &mut tree, base, 99, 4)?;
+    put_account(rt, &mut tree, base, 300, 9)?;
+    tree.flush(base)?;
+    put_300(rt, &mut tree, base)?;
+    let (root, _) = tree.flush(base)?;
+    Ok(root)
+}
+
+#[test]
+fn what_was_flushed_is_read(rt: HostRuntime) -> Result<(), Fail> {
+    let base = three(rt)?;
+    let (mut tree, _) = flushed(rt, &base)?;
+    assert_eq!(rt; nonce_of(&tree, &base, 99)?, Some(4));
+    assert_eq!(rt; nonce_of(&tree, &base, 300)?, Some(7));
+    put_account(rt, &mut tree, &base, 300, 8)?;
+    assert_eq!(rt; nonce_of(&tree, &base, 300)?, Some(8));
+    Ok(())
+}
+
+#[test]
+fn the_order_of_changes_does_not_count(rt: HostRuntime) -> Result<(), Fail> {
+    let base = three(rt)?;
+    let (_, root) = flushed(rt, &base)?;
+    assert!(rt; root == root_again(rt, &base)?);
     Ok(())
 }
 

@@ -6,9 +6,9 @@ use Rattle.init_names.specs.Names.{AreNames, made_state, named, names_of}
 use Rattle.init_names.specs.Stands.{Stands}
 use Rattle.init_names.proofs.MadeNames.{made_stands}
 use Rattle.init_names.proofs.names.init_blocks.Goals as goal
-use Rattle.init_names.proofs.names.init_blocks.Goals.{After-drop-names-2}
+use Rattle.init_names.proofs.names.init_blocks.Goals.{After-drop-names-3}
 
-stands : (c : After-drop-names-2) → Stands (record { alloc = c.args.alloc; tree = c.in_ok-tree.tree; next = c.args.next; network = c.of-network.result }) [] (made_state c.args.names.now c.args.next c.args.network.now)
+stands : (c : After-drop-names-3) → Stands (record { alloc = c.args.alloc; tree = c.in_ok-tree.tree; next = c.args.next; network = c.of-network.result }) [] (made_state c.args.names.now c.args.next c.args.network.now)
 stands c =
     let names : List (Address × ℕ) = c.args.names.now in
     let all = ap (λ (ns : List (Address × ℕ)). names_of ns) c.as_slice.ensures in

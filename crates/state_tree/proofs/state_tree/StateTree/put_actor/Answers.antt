@@ -1,9 +1,14 @@
 use Rattle.std.proofs.Common.{refl, ap, ◌∙◌}
-use Rattle.state_tree.specs.Actors.{id_key, records}
-use Rattle.state_tree.proofs.Calls.{stands_with}
+use Rattle.std.specs.FinMap.{insert}
+use Rattle.state_tree.specs.Actors.{Actors}
+use Rattle.state_tree.proofs.Calls.{on_err_any, stands_copied, stands_with}
 use Rattle.state_tree.proofs.state_tree.StateTree.put_actor.Goals as goal
+
+pub returns-in_err-insert-clause-unchanged : goal.returns-in_err-insert-clause-unchanged
+returns-in_err-insert-clause-unchanged g c = λ actors info stands.
+    on_err_any c.from_residual.result (stands_copied c.args.self.now _ _ actors info stands (λ m is. is) c.in_err-insert.ensures.unchanged refl)
 
 pub returns-clause-after : goal.returns-clause-after
 returns-clause-after g c = λ actors info stands.
-    stands_with c.args.self.now _ _ actors info c.args.id c.args.actor c.deref.result.now c.in_ok-record.record stands c.number.ensures.range c.in_ok-record.ensures.actor (c.deref.ensures.value ∙ c.in_ok-key.ensures ∙ ap id_key c.number.ensures.value)
-    c.in_ok-record.ensures.record (c.in_ok-set.ensures.after (records actors)) refl
+    stands_with c.args.self.now _ _ actors info c.args.id c.args.actor stands c.number.ensures.range c.in_ok-insert.ensures.actor
+    (c.in_ok-insert.ensures.after ∙ ap (λ id. insert c.args.self.now.changed id c.args.actor) c.number.ensures.value) refl refl
