@@ -31,7 +31,8 @@ def write(name, prices, blocks, tipsets):
 
 
 def edges():
-    """Tipsets over one state, with prices 1. A message of this kind is 25 bytes long, so that its inclusion costs 26."""
+    """Tipsets over one state, and one over another, with prices 1. A message of this kind is 25 bytes long, so that its
+    inclusion costs 26."""
     blocks = Blocks()
     root = state(
         blocks,
@@ -40,14 +41,18 @@ def edges():
         others=[102],
     )
 
+    other = state(blocks, {100: (0, 500_000_000), 101: (0, 0), 103: (5, 7)}, names=[(NAME, 103), (KEY, 100)], network="b")
+
     def send(receiver, sender=100, nonce=0, value=3, limit=1_000_000, cap=100, premium=1):
         return to(receiver, sender, nonce, value, limit=limit, cap=cap, premium=premium)
 
     def by_name(sender, nonce):
         return message(id_address(101), sender, nonce, 3)
 
-    def one(messages, miner=101, award=0, base=10):
-        return (5, base, root, [(miner, award, messages)])
+    def one(messages, miner=101, award=0, base=10, over=root):
+        return (5, base, over, [(miner, award, messages)])
+
+    shared = [message(NAME, id_address(100), 0, 3, limit=1000), message(KEY, id_address(100), 1, 4, limit=1000)]
 
     return blocks, [
         # nothing at all, and a block without messages
@@ -82,6 +87,11 @@ def edges():
         one([send(99, limit=1000, cap=4)], award=1_000_000),
         one([send(101, limit=1000, cap=4, premium=9)], base=2 * 10**27),
         one([send(101, limit=1000, cap=0, premium=0), send(101, nonce=1, limit=1000, cap=7, premium=100)], base=5),
+        # the same messages twice over one state, then over another with other names, and over the first again
+        one(shared, award=7),
+        one(shared, award=7),
+        one(shared, award=7, over=other),
+        one(shared, award=7),
     ]
 
 

@@ -19,11 +19,14 @@ use Rattle.scenario_form.specs.declared.scenario.Scenario.{Scenario}
 use Rattle.state_model.specs.State.{State, all_below_next, has_room_for}
 use Rattle.state_model.specs.StateAt.{state_at}
 use Rattle.tipset_exec.specs.Alone.{IsEvaluable, alone, is_built}
+use Rattle.tipset_exec.specs.Opens.{Opens}
+use Rattle.fvm_run.specs.declared.kept_state.KeptState.{KeptState}
 use Rattle.fvm_run.specs.declared.refusal.Refusal.TheVariants.{NotBuilt}
 use Rattle.fvm_run.specs.declared.stop.Stop.{Stop}
 use Rattle.fvm_run.specs.declared.stop.Stop.TheVariants.{ReadFailed, NoMemory, Refused}
 use Rattle.fvm_run.specs.Answers.{BeginsAsList, IsRunAnswer}
 use Rattle.fvm_run.specs.Cars.{AreBuilt, AreEvaluable, AreReportsOn, HasScenario, HaveStates, IsTextOf, IsUnbuiltRefusal, first_not_built, reports_on}
+use Rattle.fvm_run.specs.Kept.{IsKept}
 use Rattle.fvm_run.specs.Stops.{IfRefused}
 
 -- ---- things with what each is answered
@@ -160,6 +163,11 @@ states_exist blocks rules tipsets are =
     answers : (ts : List Tipset) → AllByRecursion (λ t. (s : State) × IsEvaluable blocks rules t s) ts → AllByRecursion (λ t. (s : State) × (state_at blocks t.root rules.codes ≡ Ok s)) ts
     answers [] all = tt
     answers (t ∷ ts) ((s, is), all) = ((s, is.loaded), answers ts all)
+
+-- the state that is kept is the one under this root
+pub kept_opens : (blocks : List BlockParts) (codes : Codes) (root : CidParts) (kept : KeptState) (s : State) → kept.root ≡ root → IsKept blocks codes kept → state_at blocks root codes ≡ Ok s → Opens kept.opening blocks s
+kept_opens blocks codes root kept s same (u, is, opens) loaded =
+    subst (Opens kept.opening blocks) (ok_same (state_at blocks root codes) u s (ap (λ (r : CidParts). state_at blocks r codes) (sym same) ∙ is) loaded) opens
 
 -- ---- how many tipsets
 

@@ -7,3 +7,4 @@ pub mod Statuses
 pub mod Writing
 pub mod Lines
 pub mod Headline
+pub mod Kept

@@ -18,6 +18,7 @@ mod car_text;
 mod command;
 mod ending;
 mod input;
+mod kept_state;
 mod kind_name;
 mod laws;
 mod line;

@@ -1,4 +1,4 @@
-ghost use Rattle.std.specs.Prelude.{◌≡◌, ◌≤◌, ℕ, All, List, IfOk, IfErr, length, true};
+ghost use Rattle.std.specs.Prelude.{◌≡◌, ◌≤◌, ℕ, All, List, IfOk, IfErr, IfSome, length, true};
 ghost use Rattle.fil_base.specs.CidParts.{CidParts};
 ghost use Rattle.fil_message.specs.Tipsets.{IsRules, IsTipset};
 ghost use Rattle.fil_message.specs.declared.tipset.Tipset.{Tipset as Tip};
@@ -6,9 +6,12 @@ ghost use Rattle.scenario_form.specs.Answer.{IsScenario};
 ghost use Rattle.state_model.specs.State.{State};
 ghost use Rattle.state_model.specs.StateAt.{state_at};
 ghost use Rattle.tipset_exec.specs.Alone.{IsEvaluable, alone, is_built as is_built_over};
-ghost use Rattle.fvm_run.specs.Cars.{AreBuilt, AreEvaluable, AreReportsOn, HaveStates, IsUnbuiltRefusal, first_not_built as first_among, reports_on};
+ghost use Rattle.tipset_exec.specs.Opens.{Opens};
+ghost use Rattle.fvm_run.specs.Cars.{AreBuilt, AreReportsOn, HaveStates, IsUnbuiltRefusal, first_not_built as first_among, reports_on};
+ghost use Rattle.fvm_run.specs.Kept.{IsKept};
 ghost use Rattle.fvm_run.specs.Stops.{IfRefused};
 
+use crate::kept_state::KeptState;
 use crate::refusal::Refusal;
 use crate::stop::Stop;
 use block_base::Base;
@@ -17,7 +20,7 @@ use fil_message::{Report, Tipset};
 use gas_prices::Rules;
 use scenario_form::Scenario;
 use std::alloc::Global;
-use tipset_exec::{evaluate_alone, is_built};
+use tipset_exec::{built_over_any_state, evaluate_from, is_built_from};
 
 /// The reports on the tipsets of a scenario, each alone over the loaded blocks. All of them are judged before the first
 /// one is evaluated.
@@ -42,39 +45,75 @@ fn first_not_built(
     rules: &Rules,
     tipsets: &[Tipset],
 ) -> Mem<Option<u32>>
-    requires few { length tipsets.now ≤ 1024 }
-    requires states { AreEvaluable base.now rules.now tipsets.now }
+    requires { length tipsets.now ≤ 1024 }
     ensures { (pairs : List (Tip × State)) → HaveStates base.now rules.now tipsets.now pairs
         → IfOk result (λ place. place ≡ first_among 0 pairs) }
 {
+    let mut kept = None;
     for (place, tipset) in tipsets.iter().enumerate() {
-        if !is_built(alloc, base, rules, tipset)? {
+        let (built, state) = judge(alloc, base, rules, tipset, kept)?;
+        if !built {
             return Ok(Some(place as u32));
         }
+        kept = state;
     }
     Ok(None)
 }
 
-/// The report on each tipset.
+/// Whether a tipset is evaluated, and the state that is kept then. A state is loaded only where names have to be looked
+/// up in it.
+fn judge(
+    alloc: Global,
+    base: &Base,
+    rules: &Rules,
+    tipset: &Tipset,
+    kept: Option<KeptState>,
+) -> Mem<(bool, Option<KeptState>)>
+    requires { IfSome kept (IsKept base.now rules.now.codes) }
+    ensures built { (s : State) → state_at base.now tipset.now.root rules.now.codes ≡ Ok s
+        → IfOk result (λ r. r.0 ≡ is_built_over s tipset.now) }
+    ensures kept { IfOk result (λ r. IfSome r.1 (IsKept base.now rules.now.codes)) }
+{
+    if let Some(built) = built_over_any_state(tipset) {
+        return Ok((built, kept));
+    }
+    let state = KeptState::under(alloc, base, &rules.codes, &tipset.root, kept)?;
+    let built = is_built_from(base, tipset, state.opening())?;
+    Ok((built, Some(state)))
+}
+
+/// The report on each tipset. A state that tipsets one after another share is loaded once.
 fn evaluate_all(alloc: Global, base: &Base, rules: &Rules, tipsets: &[Tipset]) -> Mem<Row<Report>>
     requires { AreBuilt base.now rules.now tipsets.now }
     ensures { (pairs : List (Tip × State)) → HaveStates base.now rules.now tipsets.now pairs
         → IfOk result (λ reports. reports ≡ reports_on base.now rules.now pairs) }
 {
     let mut reports = Vec::with_capacity(alloc, tipsets.len())?;
+    let mut kept = None;
     for tipset in tipsets {
-        reports.push(evaluate(alloc, base, rules, tipset)?)?;
+        let state = KeptState::under(alloc, base, &rules.codes, &tipset.root, kept)?;
+        reports.push(evaluate(alloc, base, rules, tipset, &state)?)?;
+        kept = Some(state);
     }
     Ok(Row::of(reports))
 }
 
-/// The report on a tipset. The blocks that it made are let go.
-fn evaluate(alloc: Global, base: &Base, rules: &Rules, tipset: &Tipset) -> Mem<Report>
-    requires { (s : State) × IsEvaluable base.now rules.now tipset.now s × (is_built_over s tipset.now ≡ true) }
+/// The report on a tipset over the state that is kept, which is the one under its root. The blocks that it made are let
+/// go.
+fn evaluate(
+    alloc: Global,
+    base: &Base,
+    rules: &Rules,
+    tipset: &Tipset,
+    state: &KeptState,
+) -> Mem<Report>
+    requires built { (s : State) × IsEvaluable base.now rules.now tipset.now s × (is_built_over s tipset.now ≡ true) }
+    requires root { state.now.root ≡ tipset.now.root }
+    requires kept { IsKept base.now rules.now.codes state.now }
     ensures { (s : State) → state_at base.now tipset.now.root rules.now.codes ≡ Ok s
         → IfOk result (λ report. report ≡ alone base.now rules.now s tipset.now) }
 {
-    let (report, blocks) = evaluate_alone(alloc, base, rules, tipset)?;
+    let (report, blocks) = evaluate_from(alloc, base, rules, tipset, state.opening())?;
     drop(blocks);
     Ok(report)
 }

@@ -11,3 +11,4 @@ pub mod Stands
 pub mod Ends
 pub mod Progress
 pub mod Keys
+pub mod Opens

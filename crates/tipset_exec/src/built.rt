@@ -1,13 +1,14 @@
-ghost use Rattle.std.specs.Prelude.{◌≡◌, ◌==◌, IfOk, Ok, not, true};
+ghost use Rattle.std.specs.Prelude.{◌≡◌, ◌==◌, IfOk, IfSome, Ok, not, true};
 ghost use Rattle.std.specs.List.{list_all, list_any};
-ghost use Rattle.fil_base.specs.Failure.{IfFault};
 ghost use Rattle.state_model.specs.State.{State};
 ghost use Rattle.state_model.specs.StateAt.{state_at};
 ghost use Rattle.tipset_exec.specs.Alone.{IsEvaluable, has_account, is_built, is_transfer};
 ghost use Rattle.tipset_exec.specs.Keys.{is_key};
+ghost use Rattle.tipset_exec.specs.Opens.{Opens};
 ghost use Rattle.tipset_exec.specs.Stands.{Stands};
 
 use crate::ledger::Ledger;
+use crate::opening_state::OpeningState;
 use block_base::Base;
 use fil_address::Address;
 use fil_base::{Mem, NoMemory};
@@ -22,33 +23,61 @@ pub fn is_built(alloc: Global, base: &Base, rules: &Rules, tipset: &Tipset) -> M
     ensures { (s : State) → state_at base.now tipset.now.root rules.now.codes ≡ Ok s
         → IfOk result (λ built. built ≡ is_built s tipset.now) }
 {
+    if let Some(built) = built_over_any_state(tipset) {
+        return Ok(built);
+    }
+    match OpeningState::load(alloc, base, &tipset.root, &rules.codes) {
+        Ok(opening) => is_built_from(base, tipset, &opening),
+        Err(_) => Err(NoMemory),
+    }
+}
+
+/// Whether this version evaluates a tipset, where that is the same over any state. Where the name of a receiver has to be
+/// looked up, it is not.
+pub fn built_over_any_state(tipset: &Tipset) -> Option<bool>
+    ensures { (s : State) → IfSome result (λ built. built ≡ is_built s tipset.now) }
+{
+    match tipset.blocks.as_slice() {
+        [] => Some(true),
+        [block] => are_transfers_over_any_state(block.messages.as_slice()),
+        _ => Some(false),
+    }
+}
+
+/// Whether this version evaluates a tipset, by the state under its root, which is loaded.
+pub fn is_built_from(base: &Base, tipset: &Tipset, opening: &OpeningState) -> Mem<bool>
+    ensures { (s : State) → Opens opening.now base.now s → IfOk result (λ built. built ≡ is_built s tipset.now) }
+{
     match tipset.blocks.as_slice() {
         [] => Ok(true),
-        [block] => are_transfers(alloc, base, rules, tipset, block.messages.as_slice()),
+        [block] => are_transfers(base, opening.ledger(), block.messages.as_slice()),
         _ => Ok(false),
     }
 }
 
-/// Whether messages over the tipset's state move values alone, to receivers for which no account would have to be made.
-fn are_transfers(
-    alloc: Global,
-    base: &Base,
-    rules: &Rules,
-    tipset: &Tipset,
-    messages: &[Message],
-) -> Mem<bool>
-    ensures { (s : State) → state_at base.now tipset.now.root rules.now.codes ≡ Ok s
-        → IfOk result (λ all. all ≡ list_all (is_transfer s) messages.now) }
+/// Whether messages move values alone, to receivers for which no account would have to be made, where it does not depend
+/// on the state.
+fn are_transfers_over_any_state(messages: &[Message]) -> Option<bool>
+    ensures { (s : State) → IfSome result (λ all. all ≡ list_all (is_transfer s) messages.now) }
 {
     if !are_sends(messages) {
-        return Ok(false);
+        Some(false)
+    } else if !have_keys(messages) {
+        Some(true)
+    } else {
+        None
     }
-    if !have_keys(messages) {
-        return Ok(true);
-    }
-    match Ledger::load(alloc, base, &tipset.root, &rules.codes) {
-        Ok(ledger) => have_accounts(base, &ledger, messages),
-        Err(_) => Err(NoMemory),
+}
+
+/// Whether messages move values alone, to receivers for which no account would have to be made.
+fn are_transfers(base: &Base, ledger: &Ledger, messages: &[Message]) -> Mem<bool>
+    ensures { (s : State) → Stands ledger.now base.now s
+        → IfOk result (λ all. all ≡ list_all (is_transfer s) messages.now) }
+{
+    if are_sends(messages) {
+        have_accounts(base, ledger, messages)
+    } else {
+        Ok(false)
     }
 }
 

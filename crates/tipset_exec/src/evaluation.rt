@@ -4,11 +4,11 @@ ghost use Rattle.fil_base.specs.declared.token.TheConstants.{GREATEST_AMOUNT};
 ghost use Rattle.state_model.specs.State.{State};
 ghost use Rattle.state_model.specs.StateAt.{state_at};
 ghost use Rattle.tipset_exec.specs.Alone.{IsEvaluable, alone, alone_blocks, blocks_made, is_built, report_on};
+ghost use Rattle.tipset_exec.specs.Opens.{Opens};
 ghost use Rattle.tipset_exec.specs.Progress.{AreCountable, StandsFor};
-ghost use Rattle.tipset_exec.specs.Stands.{Stands};
 ghost use Rattle.tipset_exec.specs.Tipsets.{Run};
 
-use crate::ledger::Ledger;
+use crate::opening_state::OpeningState;
 use crate::receipts::receipts_tree;
 use crate::tipset::{Progress, run_tipset};
 use block_base::Base;
@@ -34,7 +34,30 @@ pub fn evaluate_alone(
     ensures blocks { (s : State) → state_at base.now tipset.now.root rules.now.codes ≡ Ok s
         → IfOk result (λ r. r.1 ≡ alone_blocks base.now rules.now s tipset.now) }
 {
-    evaluate(alloc, base, rules, tipset)
+    let opening = match OpeningState::load(alloc, base, &tipset.root, &rules.codes) {
+        Ok(opening) => opening,
+        Err(_) => return Err(NoMemory),
+    };
+    evaluate_from(alloc, base, rules, tipset, &opening)
+}
+
+/// The report on a tipset and the blocks that it made, as [`evaluate_alone`] gives them, from the state under its root,
+/// which is loaded. That state stays as it is: the messages run over a copy.
+pub fn evaluate_from(
+    alloc: Global,
+    base: &Base,
+    rules: &Rules,
+    tipset: &Tipset,
+    opening: &OpeningState,
+) -> Mem<(Report, Row<Block>)>
+    requires { (s : State) × IsEvaluable base.now rules.now tipset.now s × (is_built s tipset.now ≡ true)
+        × Opens opening.now base.now s }
+    ensures report { (s : State) → Opens opening.now base.now s
+        → IfOk result (λ r. r.0 ≡ alone base.now rules.now s tipset.now) }
+    ensures blocks { (s : State) → Opens opening.now base.now s
+        → IfOk result (λ r. r.1 ≡ alone_blocks base.now rules.now s tipset.now) }
+{
+    evaluate(alloc, base, rules, tipset, opening)
 }
 
 /// The report on a tipset, of any number of blocks, and the blocks that it made.
@@ -43,17 +66,15 @@ pub(crate) fn evaluate(
     base: &Base,
     rules: &Rules,
     tipset: &Tipset,
+    opening: &OpeningState,
 ) -> Mem<(Report, Row<Block>)>
-    requires { (s : State) × IsEvaluable base.now rules.now tipset.now s }
-    ensures report { (s : State) → state_at base.now tipset.now.root rules.now.codes ≡ Ok s
+    requires { (s : State) × IsEvaluable base.now rules.now tipset.now s × Opens opening.now base.now s }
+    ensures report { (s : State) → Opens opening.now base.now s
         → IfOk result (λ r. r.0 ≡ alone base.now rules.now s tipset.now) }
-    ensures blocks { (s : State) → state_at base.now tipset.now.root rules.now.codes ≡ Ok s
+    ensures blocks { (s : State) → Opens opening.now base.now s
         → IfOk result (λ r. r.1 ≡ alone_blocks base.now rules.now s tipset.now) }
 {
-    let ledger = match Ledger::load(alloc, base, &tipset.root, &rules.codes) {
-        Ok(ledger) => ledger,
-        Err(_) => return Err(NoMemory),
-    };
+    let ledger = opening.begin()?;
     let progress = run_tipset(alloc, base, rules, tipset, ledger)?;
     report_on(alloc, base, tipset.epoch, progress)
 }

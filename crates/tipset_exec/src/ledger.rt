@@ -1,5 +1,6 @@
-ghost use Rattle.std.specs.Prelude.{◌≡◌, ◌+◌, ◌-◌, ◌≤◌, ◌<◌, ◌^◌, Err, IfErr, IfOk, Ok, OnOk, Some};
+ghost use Rattle.std.specs.Prelude.{◌≡◌, ◌+◌, ◌-◌, ◌≤◌, ◌<◌, ◌^◌, Err, IfErr, IfOk, List, Ok, OnOk, Some};
 ghost use Rattle.std.specs.FinMap.{get, insert};
+ghost use Rattle.cid_core.specs.BlockParts.{BlockParts};
 ghost use Rattle.fil_base.specs.Failure.{IfFault};
 ghost use Rattle.fil_base.specs.declared.token.TheConstants.{GREATEST_AMOUNT};
 ghost use Rattle.fil_message.specs.Sound.{IsMessage};
@@ -65,6 +66,21 @@ impl Ledger {
             names,
             minted: Token::zero(),
             burned: Token::zero(),
+        })
+    }
+
+    /// A ledger of the same state.
+    pub(crate) fn copy(&self) -> Mem<Ledger>
+        ensures { (blocks : List BlockParts) (s : State) → Stands self.now blocks s
+            → IfOk result (λ copy. Stands copy blocks s) }
+    {
+        let tree = self.tree.copy()?;
+        let names = self.names.copy()?;
+        Ok(Ledger {
+            tree,
+            names,
+            minted: self.minted,
+            burned: self.burned,
         })
     }
 

@@ -3,6 +3,8 @@
 //!
 //! ```text
 //! let (report, blocks) = evaluate_alone(alloc, &base, &rules, &tipset)?;
+//! let opening = OpeningState::load(alloc, &base, &tipset.root, &rules.codes)?;    // loaded once, for many tipsets
+//! let (report, blocks) = evaluate_from(alloc, &base, &rules, &tipset, &opening)?;
 //! let report = run_form0(alloc, &form)?;
 //! ```
 #![tactic(auto)]
@@ -14,12 +16,14 @@ mod evaluation;
 mod exit;
 mod ledger;
 mod message;
+mod opening_state;
 mod receipts;
 mod running;
 mod sender;
 mod tipset;
 
-pub use built::is_built;
-pub use evaluation::evaluate_alone;
+pub use built::{built_over_any_state, is_built, is_built_from};
+pub use evaluation::{evaluate_alone, evaluate_from};
 pub use exit::SYS_OUT_OF_GAS;
+pub use opening_state::OpeningState;
 pub use running::run_form0;

@@ -2,13 +2,8 @@ use Rattle.std.proofs.Common.{◌≡◌, true, sym, ◌∙◌}
 use Rattle.std.proofs.lemmas.List.Elements.{All-same}
 use Rattle.state_model.specs.State.{State}
 use Rattle.tipset_exec.specs.Alone.{IsEvaluable, is_built}
-use Rattle.fvm_run.proofs.States.{each_is_built, evaluable, reported, states_of, unbuilt}
+use Rattle.fvm_run.proofs.States.{each_is_built, reported, states_of, unbuilt}
 use Rattle.fvm_run.proofs.tipsets.reports_of.Goals as goal
-
-pub first_not_built-requires-clause-states : goal.first_not_built-requires-clause-states
-first_not_built-requires-clause-states c =
-    All-same (λ t. (s : State) × IsEvaluable c.args.base.now c.args.scenario.now.rules t s) c.as_slice-tipsets.result.now c.args.scenario.now.tipsets c.as_slice-tipsets.ensures
-    (evaluable c.args.base.now c.requires.scenario.0 c.args.scenario.now c.requires.scenario.1 c.requires.ranges)
 
 pub returns-in-Some-clause-refused : goal.returns-in-Some-clause-refused
 returns-in-Some-clause-refused c =
