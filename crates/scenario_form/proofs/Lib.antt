@@ -13,3 +13,6 @@ mod Runs
 mod Steps
 mod TipsetReads
 mod WithinLimits
+mod ItemTexts
+mod PartTexts
+mod FieldSteps

@@ -1,5 +1,5 @@
 -- The items of a list that stands in a block stand in it.
-use Rattle.std.proofs.Common.{◌≡◌, ℕ, zero, suc, ◌+◌, ◌*◌, ◌^◌, ◌<◌, ◌≤◌, Bool, true, false, cond, ltb, List, [], ◌∷◌, ◌++◌, length, map, get_or, pos, negsuc, Some, Ok, refl, sym, ap, subst, ◌∙◌, arith}
+use Rattle.std.proofs.Common.{◌≡◌, ℕ, zero, suc, ◌+◌, ◌*◌, ◌^◌, ◌<◌, ◌≤◌, Bool, true, false, cond, ltb, List, [], ◌∷◌, ◌++◌, length, map, pos, negsuc, Some, Ok, refl, sym, ap, subst, ◌∙◌, arith}
 use Rattle.std.specs.Prelude.{All, slice_get}
 use Rattle.std.specs.Int.{w16, w32, w64, to_be_bytes}
 use Rattle.std.specs.List.{AllByRecursion}
@@ -107,11 +107,8 @@ pub parts_few : (xs : List Value) → AreParts xs → length xs < 2 ^ 32
 parts_few xs are = omega (arith, (parts_of xs are).1, (parts_of xs are).2)
 
 -- an item at a place
-pub part_at : (xs : List Value) (i : ℕ) (x : Value) → AreParts xs → i < length xs → x ≡ get_or xs i x → IsPart x
-part_at xs i x are within at = subst IsPart (sym at) (All-get_or IsPart xs i x within (each_part xs are))
-
-part_there : (xs : List Value) (i : ℕ) (x : Value) → AreParts xs → slice_get xs i ≡ Some x → IsPart x
-part_there xs i x are there = part_at xs i x are (slice_get_within xs i x there) (sym (get_or_from_slice_get xs i x x there))
+part_there : (xs : List Value) (i : ℕ) (x : Value) → All IsPart xs → slice_get xs i ≡ Some x → IsPart x
+part_there xs i x all there = subst IsPart (get_or_from_slice_get xs i x x there) (All-get_or IsPart xs i x (slice_get_within xs i x there) all)
 
 -- ---- fields
 
@@ -120,14 +117,17 @@ pub fields_parts : (x : Value) (n : ℕ) (items : List Value) → IsPart x → f
 fields_parts x n items is read = subst IsPart (list_gives x n items read).0 is
 
 -- a value at a place
-pub value_part : (items : List Value) (at : ℕ) (x : Value) → AreParts items → field itself items at ≡ Ok x → IsPart x
-value_part items at x are read =
+pub value_there : (items : List Value) (at : ℕ) (x : Value) → All IsPart items → field itself items at ≡ Ok x → IsPart x
+value_there items at x all read =
     let there = field_gives itself items at x read in
-    part_there items at x are (there.1 ∙ ap Some (ok_same _ there.0 x refl there.2))
+    part_there items at x all (there.1 ∙ ap Some (ok_same _ there.0 x refl there.2))
+
+pub value_part : (items : List Value) (at : ℕ) (x : Value) → AreParts items → field itself items at ≡ Ok x → IsPart x
+value_part items at x are read = value_there items at x (each_part items are) read
 
 -- the items of a list at a place
 pub list_parts : (items : List Value) (at : ℕ) (listed : List Value) → AreParts items → field items_of items at ≡ Ok listed → AreParts listed
-list_parts items at listed are read = part_there items at (v.List listed) are (list_at listed items at read)
+list_parts items at listed are read = part_there items at (v.List listed) (each_part items are) (list_at listed items at read)
 
 -- ---- the value of a block
 

@@ -1,6 +1,7 @@
 -- What is read is in its ranges.
 use Rattle.std.proofs.Common.{◌≡◌, ℕ, ◌-◌, ◌^◌, ◌<◌, ◌≤◌, length, Result, Ok, Err, refl, ap, subst, arith}
 use Rattle.std.specs.Prelude.{All}
+use Rattle.fil_base.specs.CidParts.{CidParts}
 use Rattle.fil_base.specs.declared.token.TheConstants.{GREATEST_AMOUNT}
 use Rattle.dag_cbor.specs.declared.value.Value.{Value}
 use Rattle.cbor_fields.specs.Fields.{field}
@@ -16,7 +17,7 @@ use Rattle.fil_message.proofs.FieldLaws.{amount_at, up_to_at}
 use Rattle.fil_message.proofs.MessageLaws as laws
 use Rattle.fil_message.proofs.ReadSteps.{both_read, ok_same}
 use Rattle.scenario_form.specs.Parts.{AreParts, IsPart, IsRaw, IsRawBlock, IsRawTipset}
-use Rattle.scenario_form.specs.Reading.{BlockFields, ScenarioFields, TipsetFields, block_at, block_fields, block_read, codes_read, each_read, itself, limits_read, message_at, message_read, nowhere, prices_read, read_at, rules_read, scenario_fields, scenario_read, tipset_at, tipset_fields, tipset_read}
+use Rattle.scenario_form.specs.Reading.{BlockFields, ScenarioFields, TipsetFields, block_at, block_fields, block_front, block_read, codes_read, each_read, itself, limits_read, message_at, message_read, nowhere, prices_read, read_at, rules_read, scenario_fields, scenario_front, scenario_read, tipset_at, tipset_fields, tipset_front, tipset_read}
 use Rattle.scenario_form.specs.declared.place.Place.{Place}
 use Rattle.scenario_form.specs.declared.raw.RawRules.{RawRules}
 use Rattle.scenario_form.specs.declared.raw.RawScenario.{RawScenario}
@@ -41,15 +42,17 @@ record BlockGood (f : BlockFields) : Type 0 where
 block_fields_good : (value : Value) (f : BlockFields) → IsPart value → block_fields value ≡ Ok f → BlockGood f
 block_fields_good value f part read =
     let items = both_read (fields_of value 3) _ f read in
-    let miner = both_read (field (up_to (2 ^ 63 - 1)) items.0 0) _ f items.2 in
-    let award = both_read (field token_of items.0 1) _ f miner.2 in
-    let messages = both_read (field items_of items.0 2) _ f award.2 in
-    let is : record { miner = miner.0; award = award.0; messages = messages.0 } ≡ f = ok_same _ _ f refl messages.2 in
-    subst BlockGood is record {
+    let front = both_read (block_front items.0) _ f items.2 in
+    let messages = both_read (field items_of items.0 2) _ f front.2 in
+    let miner = both_read (field (up_to (2 ^ 63 - 1)) items.0 0) _ front.0 front.1 in
+    let award = both_read (field token_of items.0 1) _ front.0 miner.2 in
+    let front_is : (miner.0, award.0) ≡ front.0 = ok_same _ _ front.0 refl award.2 in
+    let is : record { miner = front.0.0; award = front.0.1; messages = messages.0 } ≡ f = ok_same _ _ f refl messages.2 in
+    subst BlockGood is (subst (λ (p : ℕ × ℕ). BlockGood (record { miner = p.0; award = p.1; messages = messages.0 })) front_is record {
       miner = omega (arith, (up_to_at (2 ^ 63 - 1) miner.0 items.0 0 miner.1).1);
       award = (amount_at award.0 items.0 1 award.1).1;
       messages = list_parts items.0 2 messages.0 (fields_parts value 3 items.0 part items.1) messages.1;
-    }
+    })
 
 block_good : (t b : ℕ) (value : Value) (block : TipBlock) → IsPart value → block_read t b value ≡ Ok block → IsRawBlock block
 unfolding block_read
@@ -71,16 +74,18 @@ record TipsetGood (f : TipsetFields) : Type 0 where
 tipset_fields_good : (value : Value) (f : TipsetFields) → IsPart value → tipset_fields value ≡ Ok f → TipsetGood f
 tipset_fields_good value f part read =
     let items = both_read (fields_of value 4) _ f read in
-    let epoch = both_read (field (up_to (2 ^ 63 - 1)) items.0 0) _ f items.2 in
-    let fee = both_read (field token_of items.0 1) _ f epoch.2 in
-    let root = both_read (field cid_of items.0 2) _ f fee.2 in
-    let blocks = both_read (field items_of items.0 3) _ f root.2 in
-    let is : record { epoch = epoch.0; base_fee = fee.0; root = root.0; blocks = blocks.0 } ≡ f = ok_same _ _ f refl blocks.2 in
-    subst TipsetGood is record {
+    let front = both_read (tipset_front items.0) _ f items.2 in
+    let blocks = both_read (field items_of items.0 3) _ f front.2 in
+    let epoch = both_read (field (up_to (2 ^ 63 - 1)) items.0 0) _ front.0 front.1 in
+    let fee = both_read (field token_of items.0 1) _ front.0 epoch.2 in
+    let root = both_read (field cid_of items.0 2) _ front.0 fee.2 in
+    let front_is : (epoch.0, fee.0, root.0) ≡ front.0 = ok_same _ _ front.0 refl root.2 in
+    let is : record { epoch = front.0.0; base_fee = front.0.1; root = front.0.2; blocks = blocks.0 } ≡ f = ok_same _ _ f refl blocks.2 in
+    subst TipsetGood is (subst (λ (p : ℕ × ℕ × CidParts). TipsetGood (record { epoch = p.0; base_fee = p.1; root = p.2; blocks = blocks.0 })) front_is record {
       epoch = omega (arith, (up_to_at (2 ^ 63 - 1) epoch.0 items.0 0 epoch.1).1);
       base_fee = (amount_at fee.0 items.0 1 fee.1).1;
       blocks = list_parts items.0 3 blocks.0 (fields_parts value 4 items.0 part items.1) blocks.1;
-    }
+    })
 
 tipset_good : (t : ℕ) (value : Value) (tipset : Tipset) → IsPart value → tipset_read t value ≡ Ok tipset → IsRawTipset tipset
 unfolding tipset_read
@@ -115,28 +120,17 @@ record ScenarioGood (f : ScenarioFields) : Type 0 where
 scenario_fields_good : (value : Value) (f : ScenarioFields) → IsPart value → scenario_fields value ≡ Ok f → ScenarioGood f
 scenario_fields_good value f part read =
     let items = both_read (fields_of value 3) _ f read in
-    let form = both_read (field (just 1) items.0 0) _ f items.2 in
-    let triple = both_read (field itself items.0 1) _ f form.2 in
-    let rules = both_read (rules_read triple.0) _ f triple.2 in
+    let rules = both_read (scenario_front items.0) _ f items.2 in
     let tipsets = both_read (field items_of items.0 2) _ f rules.2 in
+    let form = both_read (field (just 1) items.0 0) _ rules.0 rules.1 in
+    let triple = both_read (field itself items.0 1) _ rules.0 form.2 in
     let own : ScenarioFields = record { rules = rules.0; tipsets = tipsets.0 } in
     let is : own ≡ f = ok_same (Ok own) own f refl tipsets.2 in
     let parts = fields_parts value 3 items.0 part items.1 in
     subst ScenarioGood {x = own} is record {
-      prices = few_prices triple.0 rules.0 (value_part items.0 1 triple.0 parts triple.1) rules.1;
+      prices = few_prices triple.0 rules.0 (value_part items.0 1 triple.0 parts triple.1) triple.2;
       tipsets = list_parts items.0 2 tipsets.0 parts tipsets.1;
     }
-
--- the tipsets of a scenario are parts
-pub tipsets_parts : (value : Value) (f : ScenarioFields) → IsPart value → scenario_fields value ≡ Ok f → AreParts f.tipsets
-tipsets_parts value f part read = (scenario_fields_good value f part read).tipsets
-
--- so are the blocks of a tipset, and the messages of a block
-pub blocks_parts : (value : Value) (f : TipsetFields) → IsPart value → tipset_fields value ≡ Ok f → AreParts f.blocks
-blocks_parts value f part read = (tipset_fields_good value f part read).blocks
-
-pub messages_parts : (value : Value) (f : BlockFields) → IsPart value → block_fields value ≡ Ok f → AreParts f.messages
-messages_parts value f part read = (block_fields_good value f part read).messages
 
 pub scenario_good : (value : Value) (s : RawScenario) → IsPart value → scenario_read value ≡ Ok s → IsRaw s
 unfolding scenario_read

@@ -1,5 +1,5 @@
 -- The rules and the fields of a scenario, one after another.
-use Rattle.std.proofs.Common.{◌≡◌, ℕ, List, Ok, Err, refl, ◌∙◌}
+use Rattle.std.proofs.Common.{◌≡◌, ℕ, List, Ok, Err, ◌∙◌}
 use Rattle.dag_cbor.specs.declared.value.Value.{Value}
 use Rattle.cbor_fields.specs.Fields.{field}
 use Rattle.cbor_fields.specs.Readers.{items_of}
@@ -8,9 +8,9 @@ use Rattle.gas_prices.specs.declared.rules.Codes.{Codes}
 use Rattle.fil_message.specs.Readers.{if_read, just}
 use Rattle.fil_message.specs.Reading.{fields_of}
 use Rattle.fil_message.proofs.ReadSteps.{then_fault, then_read}
-use Rattle.scenario_form.specs.Reading.{codes_read, itself, limits_read, prices_read, rules_read, scenario_fields}
+use Rattle.scenario_form.specs.Reading.{codes_read, itself, limits_read, prices_read, rules_read, scenario_front}
 use Rattle.scenario_form.specs.declared.raw.RawRules.{RawRules}
-use Rattle.scenario_form.proofs.Steps.{either_fault, two_fault, two_found}
+use Rattle.scenario_form.proofs.Steps.{two_fault, two_found}
 
 -- ---- the rules
 
@@ -39,24 +39,13 @@ rules_found value items prices limits codes is one two three =
     then_read (fields_of value 3) _ items (Ok (record { prices = prices; depth = limits.0; pages = limits.1; codes = codes })) is
     (two_found (field items_of items 0) prices_read _ prices one ∙ (two_found (field itself items 1) limits_read _ limits two ∙ two_found (field itself items 2) codes_read _ codes three))
 
--- ---- the fields of a scenario
+-- ---- what stands before the tipsets
 
-pub form_refused : (value : Value) (fault : FieldFault) → if_read (fields_of value 3) (λ items. field (just 1) items 0) ≡ Err fault → scenario_fields value ≡ Err fault
-form_refused value fault refused = either_fault (fields_of value 3) (λ items. field (just 1) items 0) _ fault refused
+pub form_refused : (items : List Value) (fault : FieldFault) → field (just 1) items 0 ≡ Err fault → scenario_front items ≡ Err fault
+form_refused items fault refused = then_fault (field (just 1) items 0) _ fault refused
 
-pub rules_refused : (value : Value) (items : List Value) (fault : FieldFault) → fields_of value 3 ≡ Ok items → field (just 1) items 0 ≡ Ok 1 → if_read (field itself items 1) rules_read ≡ Err fault → scenario_fields value ≡ Err fault
-rules_refused value items fault is form refused =
-    then_read (fields_of value 3) _ items (Err fault) is (then_read (field (just 1) items 0) _ 1 (Err fault) form (two_fault (field itself items 1) rules_read _ fault refused))
+pub rules_refused : (items : List Value) (form : ℕ) (fault : FieldFault) → field (just 1) items 0 ≡ Ok form → if_read (field itself items 1) rules_read ≡ Err fault → scenario_front items ≡ Err fault
+rules_refused items form fault is refused = then_read (field (just 1) items 0) _ form (Err fault) is refused
 
-pub tipsets_refused : (value : Value) (items : List Value) (rules : RawRules) (fault : FieldFault) → fields_of value 3 ≡ Ok items → field (just 1) items 0 ≡ Ok 1 → if_read (field itself items 1) rules_read ≡ Ok rules
-    → field items_of items 2 ≡ Err fault → scenario_fields value ≡ Err fault
-tipsets_refused value items rules fault is form one refused =
-    then_read (fields_of value 3) _ items (Err fault) is
-    (then_read (field (just 1) items 0) _ 1 (Err fault) form (two_found (field itself items 1) rules_read _ rules one ∙ then_fault (field items_of items 2) _ fault refused))
-
-pub fields_found : (value : Value) (items : List Value) (rules : RawRules) (tipsets : List Value) → fields_of value 3 ≡ Ok items → field (just 1) items 0 ≡ Ok 1 → if_read (field itself items 1) rules_read ≡ Ok rules
-    → field items_of items 2 ≡ Ok tipsets → scenario_fields value ≡ Ok (record { rules = rules; tipsets = tipsets })
-fields_found value items rules tipsets is form one two =
-    then_read (fields_of value 3) _ items (Ok (record { rules = rules; tipsets = tipsets })) is
-    (then_read (field (just 1) items 0) _ 1 (Ok (record { rules = rules; tipsets = tipsets })) form
-    (two_found (field itself items 1) rules_read _ rules one ∙ then_read (field items_of items 2) _ tipsets (Ok (record { rules = rules; tipsets = tipsets })) two refl))
+pub front_found : (items : List Value) (form : ℕ) (rules : RawRules) → field (just 1) items 0 ≡ Ok form → if_read (field itself items 1) rules_read ≡ Ok rules → scenario_front items ≡ Ok rules
+front_found items form rules is one = then_read (field (just 1) items 0) _ form (Ok rules) is one

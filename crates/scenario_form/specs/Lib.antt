@@ -1,4 +1,5 @@
 pub mod Parts
+pub mod Spelled
 pub mod Reading
 pub mod Judging
 pub mod Room

@@ -41,10 +41,10 @@ abbrev pub read_at : {A : Type 0} → Place → Result A FieldFault → Result A
 read_at place (Ok x) = Ok x
 read_at place (Err fault) = Err (place, fault)
 
--- the same failure, of a field of the scenario itself
-abbrev pub of_scenario : Failure FieldFault → Failure FormFault
-of_scenario NoMemory = NoMemory
-of_scenario (Fault fault) = Fault (nowhere, fault)
+-- the same failure, at a place
+abbrev pub failed_at : Place → Failure FieldFault → Failure FormFault
+failed_at place NoMemory = NoMemory
+failed_at place (Fault fault) = Fault (place, fault)
 
 -- what f reads of each value with its number, from a first number on, where it reads all; else the first fault
 abbrev pub each_read : {E A : Type 0} → (ℕ → Value → Result A E) → ℕ → List Value → Result (List A) E
@@ -55,6 +55,11 @@ each_read f n (value ∷ values) = if_read (f n value) (λ x. if_read (each_read
 abbrev pub message_read : ℕ → ℕ → ℕ → Value → Result Message FormFault
 message_read t b m value = read_at (message_at t b m) (message_of value)
 
+-- what stands before a block's messages
+abbrev pub block_front : List Value → Result (ℕ × ℕ) FieldFault
+block_front items =
+    if_read (field (up_to (2 ^ 63 - 1)) items 0) (λ miner. if_read (field token_of items 1) (λ award. Ok (miner, award)))
+
 -- what stands before a block's messages, and they themselves
 pub record BlockFields : Type 0 where
   pub miner : ℕ
@@ -63,9 +68,8 @@ pub record BlockFields : Type 0 where
 
 abbrev pub block_fields : Value → Result BlockFields FieldFault
 block_fields value =
-    if_read (fields_of value 3) (λ items. if_read (field (up_to (2 ^ 63 - 1)) items 0) (λ miner.
-    if_read (field token_of items 1) (λ award. if_read (field items_of items 2) (λ messages.
-    Ok (record { miner = miner; award = award; messages = messages })))))
+    if_read (fields_of value 3) (λ items. if_read (block_front items) (λ front. if_read (field items_of items 2) (λ messages.
+    Ok (record { miner = front.0; award = front.1; messages = messages }))))
 
 -- [miner, award, messages]
 unfoldable pub block_read : ℕ → ℕ → Value → Result TipBlock FormFault
@@ -73,6 +77,12 @@ block_read t b value =
     if_read (read_at (block_at t b) (block_fields value)) (λ fields.
     if_read (each_read (message_read t b) 0 fields.messages) (λ messages.
     Ok (record { miner = fields.miner; award = fields.award; messages = messages })))
+
+-- what stands before a tipset's blocks
+abbrev pub tipset_front : List Value → Result (ℕ × ℕ × CidParts) FieldFault
+tipset_front items =
+    if_read (field (up_to (2 ^ 63 - 1)) items 0) (λ epoch. if_read (field token_of items 1) (λ base_fee.
+    if_read (field cid_of items 2) (λ root. Ok (epoch, base_fee, root))))
 
 -- what stands before a tipset's blocks, and they themselves
 pub record TipsetFields : Type 0 where
@@ -83,10 +93,8 @@ pub record TipsetFields : Type 0 where
 
 abbrev pub tipset_fields : Value → Result TipsetFields FieldFault
 tipset_fields value =
-    if_read (fields_of value 4) (λ items. if_read (field (up_to (2 ^ 63 - 1)) items 0) (λ epoch.
-    if_read (field token_of items 1) (λ base_fee. if_read (field cid_of items 2) (λ root.
-    if_read (field items_of items 3) (λ blocks.
-    Ok (record { epoch = epoch; base_fee = base_fee; root = root; blocks = blocks }))))))
+    if_read (fields_of value 4) (λ items. if_read (tipset_front items) (λ front. if_read (field items_of items 3) (λ blocks.
+    Ok (record { epoch = front.0; base_fee = front.1; root = front.2; blocks = blocks }))))
 
 -- [epoch, base fee, state root, blocks]
 unfoldable pub tipset_read : ℕ → Value → Result Tipset FormFault
@@ -125,6 +133,10 @@ rules_read value =
     if_read (field itself items 2) (λ four. if_read (codes_read four) (λ codes.
     Ok (record { prices = prices; depth = limits.0; pages = limits.1; codes = codes }))))))))
 
+-- what stands before the tipsets: 1, the number of this form, and the rules
+abbrev pub scenario_front : List Value → Result RawRules FieldFault
+scenario_front items = if_read (field (just 1) items 0) (λ form. if_read (field itself items 1) rules_read)
+
 -- what stands before the tipsets, and they themselves
 pub record ScenarioFields : Type 0 where
   pub rules : RawRules
@@ -132,10 +144,8 @@ pub record ScenarioFields : Type 0 where
 
 abbrev pub scenario_fields : Value → Result ScenarioFields FieldFault
 scenario_fields value =
-    if_read (fields_of value 3) (λ items. if_read (field (just 1) items 0) (λ form.
-    if_read (field itself items 1) (λ triple. if_read (rules_read triple) (λ rules.
-    if_read (field items_of items 2) (λ tipsets.
-    Ok (record { rules = rules; tipsets = tipsets }))))))
+    if_read (fields_of value 3) (λ items. if_read (scenario_front items) (λ rules. if_read (field items_of items 2) (λ tipsets.
+    Ok (record { rules = rules; tipsets = tipsets }))))
 
 -- [1, rules, tipsets]
 unfoldable pub scenario_read : Value → Result RawScenario FormFault

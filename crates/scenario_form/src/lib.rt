@@ -7,6 +7,7 @@
 #![tactic(auto)]
 
 mod fault;
+mod item_texts;
 mod judging;
 mod laws;
 mod limits;
@@ -18,6 +19,7 @@ mod room;
 mod rule_fields;
 mod scenario;
 mod scenario_fields;
+mod spelled;
 mod states;
 mod tipset_fields;
 

@@ -1,5 +1,9 @@
 ghost use Rattle.std.specs.Prelude.{◌≡◌};
-ghost use Rattle.scenario_form.specs.Reading.{block_at, message_at, nowhere, tipset_at};
+ghost use Rattle.scenario_form.specs.Reading.{block_at, failed_at, message_at, nowhere, tipset_at};
+
+use crate::fault::FormFault;
+use cbor_fields::FieldFault;
+use fil_base::Failure;
 
 /// Where in a scenario a field stands: in the scenario itself, in a tipset, in a block of it, or in a message of that.
 #[derive(Clone, Copy, Debug, PartialEq, Eq)]
@@ -57,5 +61,15 @@ impl Place {
             block: Some(block),
             message: Some(message),
         }
+    }
+}
+
+/// A failure of a field, which stands at this place.
+pub(crate) fn failed_at(place: Place, failure: Failure<FieldFault>) -> Failure<FormFault>
+    ensures { result ≡ failed_at place failure }
+{
+    match failure {
+        Failure::NoMemory => Failure::NoMemory,
+        Failure::Fault(fault) => Failure::Fault((place, fault)),
     }
 }

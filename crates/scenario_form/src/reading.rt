@@ -1,4 +1,4 @@
-ghost use Rattle.std.specs.Prelude.{◌<◌, ◌≤◌, ◌^◌, ◌≡◌, All, IfErr, IfOk, Some, length};
+ghost use Rattle.std.specs.Prelude.{◌<◌, ◌≤◌, ◌^◌, ◌≡◌, All, IfErr, IfOk, IsTrue, OnOk, Some, false, length};
 ghost use Rattle.cid_core.specs.BlockParts.{BlockParts, found};
 ghost use Rattle.dag_cbor.specs.Faults.{IsFault};
 ghost use Rattle.dag_cbor.specs.Plain.{IsPlain};
@@ -6,7 +6,9 @@ ghost use Rattle.dag_cbor.specs.Spelling.{spelled};
 ghost use Rattle.fil_base.specs.Failure.{IfFault};
 ghost use Rattle.fil_message.specs.Tipsets.{IsRules, IsTipset};
 ghost use Rattle.scenario_form.specs.Answer.{HasParts, HasValue, IsScenario, IsScenarioFault, scenario_of};
-ghost use Rattle.scenario_form.specs.Parts.{IsPart, IsRaw};
+ghost use Rattle.scenario_form.specs.Parts.{IsRaw};
+ghost use Rattle.scenario_form.specs.Spelled.{IsPartText, the_value};
+ghost use Rattle.dag_cbor.specs.declared.value.Value.{Value};
 ghost use Rattle.scenario_form.specs.declared.fault.ScenarioFault.TheVariants.{Cbor as cbor_fault, Root as root_fault};
 
 use crate::fault::ScenarioFault;
@@ -17,7 +19,7 @@ use crate::scenario_fields::parts_of;
 use crate::states::judge_states;
 use block_base::Base;
 use cid_core::BlockSource;
-use dag_cbor::{CborFault, Value, decode};
+use dag_cbor::{CborFault, MAX_DEPTH, decode, split_item};
 use fil_base::{Cid, Failure};
 use gas_prices::{PriceList, Rules};
 use std::alloc::Global;
@@ -70,8 +72,8 @@ fn parts_under(
     ensures ranges { IfOk result IsRaw }
     ensures fault { IfErr result (λ failure. IfFault failure (IsScenarioFault base.now root.now)) }
 {
-    let value = value_under(alloc, root, base)?;
-    match parts_of(alloc, &value) {
+    let bytes = bytes_under(alloc, root, base)?;
+    match parts_of(alloc, bytes) {
         Ok(raw) => Ok(raw),
         Err(Failure::NoMemory) => Err(Failure::NoMemory),
         Err(Failure::Fault((place, fault))) => Err(Failure::Fault(ScenarioFault::Form(
@@ -80,31 +82,50 @@ fn parts_under(
     }
 }
 
-/// The value of the block under a root.
-fn value_under(alloc: Global, root: &Cid, base: &Base) -> Result<Value, Failure<ScenarioFault>>
+/// The bytes of the block under a root, which spell a value.
+fn bytes_under<'a>(
+    alloc: Global,
+    root: &Cid,
+    base: &'a Base,
+) -> Result<&'a [u8], Failure<ScenarioFault>>
     requires { (block : BlockParts) → found base.now root.now ≡ Some block → length block.bytes < 2 ^ 32 }
-    ensures found { IfOk result (HasValue base.now root.now) }
-    ensures part { IfOk result IsPart }
+    ensures found { IfOk result (λ bytes. HasValue base.now root.now (the_value bytes.now)) }
+    ensures part { IfOk result (λ bytes. IsPartText bytes.now) }
     ensures fault { IfErr result (λ failure. IfFault failure (IsScenarioFault base.now root.now)) }
 {
-    match base.find(root) {
-        Some(block) => value_in(alloc, block.bytes()),
-        None => Err(no_block(alloc, root)),
-    }
+    let Some(block) = base.find(root) else {
+        return Err(no_block(alloc, root));
+    };
+    judge_bytes(alloc, block.bytes())?;
+    Ok(block.bytes())
 }
 
-/// The value that these bytes of a block spell.
-fn value_in(alloc: Global, bytes: &[u8]) -> Result<Value, Failure<ScenarioFault>>
+/// Finds the fault of bytes that spell no value.
+fn judge_bytes(alloc: Global, bytes: &[u8]) -> Result<(), Failure<ScenarioFault>>
     requires { length bytes.now < 2 ^ 32 }
-    ensures found { IfOk result (λ value. IsPlain 128 value × (bytes.now ≡ spelled value)) }
-    ensures part { IfOk result IsPart }
+    ensures spelled { OnOk result (IsPlain 128 (the_value bytes.now) × (bytes.now ≡ spelled (the_value bytes.now))) }
+    ensures part { OnOk result (IsPartText bytes.now) }
     ensures fault { IfErr result (λ failure. IfFault failure (λ fault.
         (cbor : CborFault) × IsFault bytes.now cbor × (fault ≡ cbor_fault cbor))) }
 {
+    if is_value(bytes) {
+        return Ok(());
+    }
     match decode(alloc, bytes) {
-        Ok(value) => Ok(value),
+        Ok(_) => unreachable!(),
         Err(Failure::NoMemory) => Err(Failure::NoMemory),
         Err(Failure::Fault(fault)) => Err(Failure::Fault(ScenarioFault::Cbor(fault))),
+    }
+}
+
+/// Whether the bytes spell a value, which is not made.
+fn is_value(bytes: &[u8]) -> bool
+    ensures found { IsTrue result → (value : Value) × IsPlain 128 value × (bytes.now ≡ spelled value) }
+    ensures only { result ≡ false → (value : Value) → IsPlain 128 value → bytes.now ≡ spelled value → ⊥ }
+{
+    match split_item(MAX_DEPTH, bytes) {
+        Some((_, rest)) => rest.is_empty(),
+        None => false,
     }
 }
 

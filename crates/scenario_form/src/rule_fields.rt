@@ -1,4 +1,4 @@
-ghost use Rattle.std.specs.Prelude.{◌≡◌, ◌<◌, ◌^◌, Err, IfErr, IfOk, Ok, length};
+ghost use Rattle.std.specs.Prelude.{◌≡◌, ◌<◌, ◌^◌, All, Err, IfErr, IfOk, Ok, length};
 ghost use Rattle.cbor_fields.specs.Fields.{field};
 ghost use Rattle.cbor_fields.specs.Readers.{items_of};
 ghost use Rattle.fil_base.specs.Failure.{IfFault};
@@ -30,7 +30,7 @@ pub(crate) fn rules_at(
     at: usize,
 ) -> Result<RawRules, Failure<FieldFault>>
     requires place { at < 2 ^ 32 }
-    requires parts { AreParts items.now }
+    requires parts { All IsPart items.now }
     ensures found { IfOk result (λ rules. if_read (field itself items.now at) rules_read ≡ Ok rules) }
     ensures fault { IfErr result (λ failure. IfFault failure (λ fault.
         if_read (field itself items.now at) rules_read ≡ Err fault)) }

@@ -1,92 +1,78 @@
-ghost use Rattle.std.specs.Prelude.{◌≡◌, Err, IfErr, IfOk, Ok};
-ghost use Rattle.cbor_fields.specs.Fields.{field};
+ghost use Rattle.std.specs.Prelude.{◌≡◌, All, Err, IfErr, IfOk, Ok, map};
 ghost use Rattle.fil_base.specs.Failure.{IfFault};
-ghost use Rattle.fil_message.specs.Readers.{if_read, just};
-ghost use Rattle.fil_message.specs.Reading.{fields_of};
 ghost use Rattle.scenario_form.specs.Parts.{IsPart, IsRaw};
-ghost use Rattle.scenario_form.specs.Reading.{of_scenario, scenario_fields, scenario_read};
+ghost use Rattle.scenario_form.specs.Reading.{scenario_fields, scenario_front, scenario_read};
+ghost use Rattle.scenario_form.specs.Spelled.{ArePartTexts, IsPartText, the_value, the_values};
 
 use crate::fault::FormFault;
-use crate::place::Place;
+use crate::place::{Place, failed_at};
 use crate::raw::{RawRules, RawScenario};
 use crate::rule_fields::rules_at;
+use crate::spelled::{items_at, list_of, values_of};
 use crate::tipset_fields::tipsets_of;
-use cbor_fields::{FieldFault, list_of};
+use cbor_fields::FieldFault;
 use dag_cbor::Value;
 use fil_base::Failure;
-use fil_message::{items_at, just_at};
+use fil_message::just_at;
 use std::alloc::Global;
 
-/// The rules of a scenario, and its tipsets where they stand.
+/// The rules of a scenario, and its tipsets as the bytes that spell them.
 #[derive(Drop)]
 struct ScenarioFields<'a> {
     rules: RawRules,
-    tipsets: &'a [Value],
+    tipsets: Vec<&'a [u8]>,
 }
 
-/// The parts of the scenario that a value is, each by itself: `[1, rules, tipsets]`.
-pub(crate) fn parts_of(alloc: Global, value: &Value) -> Result<RawScenario, Failure<FormFault>>
-    requires { IsPart value.now }
-    ensures found { IfOk result (λ s. scenario_read value.now ≡ Ok s) }
+/// The parts of the scenario that these bytes spell, each by itself: `[1, rules, tipsets]`. Of its values only those that
+/// are read at the time are made.
+pub(crate) fn parts_of(alloc: Global, bytes: &[u8]) -> Result<RawScenario, Failure<FormFault>>
+    requires { IsPartText bytes.now }
+    ensures found { IfOk result (λ s. scenario_read (the_value bytes.now) ≡ Ok s) }
     ensures ranges { IfOk result IsRaw }
-    ensures fault { IfErr result (λ failure. IfFault failure (λ fault. scenario_read value.now ≡ Err fault)) }
+    ensures fault { IfErr result (λ failure. IfFault failure (λ fault. scenario_read (the_value bytes.now) ≡ Err fault)) }
 {
-    let raw = raw_of(alloc, value)?;
+    let raw = raw_of(alloc, bytes)?;
     Ok(raw)
 }
 
-fn raw_of(alloc: Global, value: &Value) -> Result<RawScenario, Failure<FormFault>>
-    requires { IsPart value.now }
-    ensures found { IfOk result (λ s. scenario_read value.now ≡ Ok s) }
-    ensures fault { IfErr result (λ failure. IfFault failure (λ fault. scenario_read value.now ≡ Err fault)) }
+fn raw_of(alloc: Global, bytes: &[u8]) -> Result<RawScenario, Failure<FormFault>>
+    requires { IsPartText bytes.now }
+    ensures found { IfOk result (λ s. scenario_read (the_value bytes.now) ≡ Ok s) }
+    ensures fault { IfErr result (λ failure. IfFault failure (λ fault. scenario_read (the_value bytes.now) ≡ Err fault)) }
 {
-    let fields = match scenario_fields(alloc, value) {
+    let fields = match scenario_fields(alloc, bytes) {
         Ok(fields) => fields,
-        Err(failure) => return Err(of_scenario(failure)),
+        Err(failure) => return Err(failed_at(Place::scenario(), failure)),
     };
-    let tipsets = tipsets_of(alloc, fields.tipsets)?;
+    let tipsets = tipsets_of(alloc, fields.tipsets.as_slice())?;
     Ok(RawScenario {
         rules: fields.rules,
         tipsets,
     })
 }
 
-/// A failure of a field of the scenario itself.
-fn of_scenario(failure: Failure<FieldFault>) -> Failure<FormFault>
-    ensures { result ≡ of_scenario failure }
+fn scenario_fields(alloc: Global, bytes: &[u8]) -> Result<ScenarioFields<'_>, Failure<FieldFault>>
+    requires { IsPartText bytes.now }
+    ensures found { IfOk result (λ f. scenario_fields (the_value bytes.now)
+        ≡ Ok (record { rules = f.rules; tipsets = the_values (map (λ s. s.now) f.tipsets.items) })) }
+    ensures parts { IfOk result (λ f. ArePartTexts (map (λ s. s.now) f.tipsets.items)) }
+    ensures fault { IfErr result (λ failure. IfFault failure (λ fault. scenario_fields (the_value bytes.now) ≡ Err fault)) }
 {
-    match failure {
-        Failure::NoMemory => Failure::NoMemory,
-        Failure::Fault(fault) => Failure::Fault((Place::scenario(), fault)),
-    }
-}
-
-fn scenario_fields(alloc: Global, value: &Value) -> Result<ScenarioFields<'_>, Failure<FieldFault>>
-    requires { IsPart value.now }
-    ensures found { IfOk result (λ f.
-        scenario_fields value.now ≡ Ok (record { rules = f.rules; tipsets = f.tipsets.now })) }
-    ensures fault { IfErr result (λ failure. IfFault failure (λ fault. scenario_fields value.now ≡ Err fault)) }
-{
-    let items = match form_items(value) {
-        Ok(items) => items,
-        Err(fault) => return Err(Failure::Fault(fault)),
-    };
-    let rules = rules_at(alloc, items, 1)?;
-    let tipsets = match items_at(items, 2) {
-        Ok(tipsets) => tipsets,
-        Err(fault) => return Err(Failure::Fault(fault)),
-    };
+    let items = list_of(alloc, bytes, 3)?;
+    let front = values_of(alloc, &items[..2])?;
+    let rules = scenario_front(alloc, front.as_slice())?;
+    let tipsets = items_at(alloc, items.as_slice(), 2)?;
     Ok(ScenarioFields { rules, tipsets })
 }
 
-/// The items of a scenario, of which the first is the number of this form, 1.
-fn form_items(value: &Value) -> Result<&[Value], FieldFault>
-    ensures list { IfOk result (λ items. fields_of value.now 3 ≡ Ok items.now) }
-    ensures form { IfOk result (λ items. field (just 1) items.now 0 ≡ Ok 1) }
-    ensures fault { IfErr result (λ fault.
-        if_read (fields_of value.now 3) (λ items. field (just 1) items 0) ≡ Err fault) }
+/// The rules, behind the number of this form, 1.
+fn scenario_front(alloc: Global, items: &[Value]) -> Result<RawRules, Failure<FieldFault>>
+    requires { All IsPart items.now }
+    ensures found { IfOk result (λ rules. scenario_front items.now ≡ Ok rules) }
+    ensures fault { IfErr result (λ failure. IfFault failure (λ fault. scenario_front items.now ≡ Err fault)) }
 {
-    let items = list_of(value, 3)?;
-    let _form = just_at(items, 0, 1)?;
-    Ok(items)
+    match just_at(items, 0, 1) {
+        Ok(_form) => rules_at(alloc, items, 1),
+        Err(fault) => Err(Failure::Fault(fault)),
+    }
 }

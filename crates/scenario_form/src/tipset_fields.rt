@@ -1,84 +1,87 @@
-ghost use Rattle.std.specs.Prelude.{◌≡◌, Err, IfErr, IfOk, Ok};
+ghost use Rattle.std.specs.Prelude.{◌≡◌, Err, IfErr, IfOk, Ok, map};
 ghost use Rattle.fil_base.specs.Failure.{IfFault};
 ghost use Rattle.fil_message.specs.declared.message_fault.MessageFault.TheVariants.{Field as IsField};
-ghost use Rattle.scenario_form.specs.Parts.{AreParts, IsPart};
-ghost use Rattle.scenario_form.specs.Reading.{block_fields, block_read, each_read, message_read, tipset_fields, tipset_read};
+ghost use Rattle.scenario_form.specs.Reading.{block_fields, block_front, block_read, each_read, message_read, tipset_fields, tipset_front, tipset_read};
+ghost use Rattle.scenario_form.specs.Spelled.{ArePartTexts, IsPartText, the_value, the_values};
 
 use crate::fault::FormFault;
-use crate::place::Place;
-use cbor_fields::{FieldFault, cid_at, list_of, token_at};
+use crate::place::{Place, failed_at};
+use crate::spelled::{items_at, list_of, value_of, values_of};
+use cbor_fields::{FieldFault, cid_at, token_at};
 use dag_cbor::Value;
 use fil_base::{ActorId, Cid, Failure, Row, Token};
-use fil_message::{
-    Message, MessageFault, TipBlock, Tipset, id_at, items_at, number_at, read_message,
-};
+use fil_message::{Message, MessageFault, TipBlock, Tipset, id_at, number_at, read_message};
 use std::alloc::Global;
 
-/// What stands in a tipset before its blocks, and the blocks.
-#[derive(Clone, Copy)]
+/// What stands in a tipset before its blocks, and the blocks as the bytes that spell them.
+#[derive(Drop)]
 struct TipsetFields<'a> {
     epoch: u64,
     base_fee: Token,
-    root: &'a Cid,
-    blocks: &'a [Value],
+    root: Cid,
+    blocks: Vec<&'a [u8]>,
 }
 
-/// What stands in a block before its messages, and the messages.
-#[derive(Clone, Copy)]
+/// What stands in a block before its messages, and the messages as the bytes that spell them.
+#[derive(Drop)]
 struct BlockFields<'a> {
     miner: ActorId,
     award: Token,
-    messages: &'a [Value],
+    messages: Vec<&'a [u8]>,
 }
 
-/// The tipsets, each by itself.
-pub(crate) fn tipsets_of(alloc: Global, values: &[Value]) -> Result<Row<Tipset>, Failure<FormFault>>
-    requires { AreParts values.now }
-    ensures found { IfOk result (λ tipsets. each_read tipset_read 0 values.now ≡ Ok tipsets) }
-    ensures fault { IfErr result (λ failure. IfFault failure (λ fault. each_read tipset_read 0 values.now ≡ Err fault)) }
+/// The tipsets that are spelled so, each by itself.
+pub(crate) fn tipsets_of(alloc: Global, list: &[&[u8]]) -> Result<Row<Tipset>, Failure<FormFault>>
+    requires { ArePartTexts (map (λ s. s.now) list.now) }
+    ensures found { IfOk result (λ tipsets. each_read tipset_read 0 (the_values (map (λ s. s.now) list.now)) ≡ Ok tipsets) }
+    ensures fault { IfErr result (λ failure. IfFault failure (λ fault.
+        each_read tipset_read 0 (the_values (map (λ s. s.now) list.now)) ≡ Err fault)) }
 {
-    let mut tipsets = Vec::with_capacity(alloc, values.len())?;
-    for (i, value) in values.iter().enumerate() {
-        let tipset = tipset_of(alloc, i as u32, value)?;
+    let mut tipsets = Vec::with_capacity(alloc, list.len())?;
+    for (i, bytes) in list.iter().enumerate() {
+        let tipset = tipset_of(alloc, i as u32, bytes)?;
         tipsets.push(tipset)?;
     }
     Ok(Row::of(tipsets))
 }
 
 /// The tipset of this place: `[epoch, base fee, state root, blocks]`.
-fn tipset_of(alloc: Global, tipset: u32, value: &Value) -> Result<Tipset, Failure<FormFault>>
-    requires { IsPart value.now }
-    ensures found { IfOk result (λ found. tipset_read tipset value.now ≡ Ok found) }
-    ensures fault { IfErr result (λ failure. IfFault failure (λ fault. tipset_read tipset value.now ≡ Err fault)) }
+fn tipset_of(alloc: Global, tipset: u32, bytes: &[u8]) -> Result<Tipset, Failure<FormFault>>
+    requires { IsPartText bytes.now }
+    ensures found { IfOk result (λ found. tipset_read tipset (the_value bytes.now) ≡ Ok found) }
+    ensures fault { IfErr result (λ failure. IfFault failure (λ fault. tipset_read tipset (the_value bytes.now) ≡ Err fault)) }
 {
-    let fields = match tipset_fields(value) {
+    let fields = match tipset_fields(alloc, bytes) {
         Ok(fields) => fields,
-        Err(fault) => return Err(Failure::Fault((Place::tipset(tipset), fault))),
+        Err(failure) => return Err(failed_at(Place::tipset(tipset), failure)),
     };
-    let root = fields.root.copy(alloc)?;
-    let blocks = blocks_of(alloc, tipset, fields.blocks)?;
+    let blocks = blocks_of(alloc, tipset, fields.blocks.as_slice())?;
     Ok(Tipset {
         epoch: fields.epoch,
         base_fee: fields.base_fee,
-        root,
+        root: fields.root,
         blocks,
     })
 }
 
-fn tipset_fields(value: &Value) -> Result<TipsetFields<'_>, FieldFault>
-    ensures found { IfOk result (λ f. tipset_fields value.now ≡ Ok (record {
+fn tipset_fields(alloc: Global, bytes: &[u8]) -> Result<TipsetFields<'_>, Failure<FieldFault>>
+    requires { IsPartText bytes.now }
+    ensures found { IfOk result (λ f. tipset_fields (the_value bytes.now) ≡ Ok (record {
       epoch = f.epoch;
       base_fee = f.base_fee;
-      root = f.root.now;
-      blocks = f.blocks.now;
+      root = f.root;
+      blocks = the_values (map (λ s. s.now) f.blocks.items);
     })) }
-    ensures fault { IfErr result (λ fault. tipset_fields value.now ≡ Err fault) }
+    ensures parts { IfOk result (λ f. ArePartTexts (map (λ s. s.now) f.blocks.items)) }
+    ensures fault { IfErr result (λ failure. IfFault failure (λ fault. tipset_fields (the_value bytes.now) ≡ Err fault)) }
 {
-    let items = list_of(value, 4)?;
-    let epoch = number_at(items, 0, (1 << 63) - 1)?;
-    let base_fee = token_at(items, 1)?;
-    let root = cid_at(items, 2)?;
-    let blocks = items_at(items, 3)?;
+    let items = list_of(alloc, bytes, 4)?;
+    let front = values_of(alloc, &items[..3])?;
+    let (epoch, base_fee, root) = match tipset_front(front.as_slice()) {
+        Ok((epoch, base_fee, root)) => (epoch, base_fee, root.copy(alloc)?),
+        Err(fault) => return Err(Failure::Fault(fault)),
+    };
+    let blocks = items_at(alloc, items.as_slice(), 3)?;
     Ok(TipsetFields {
         epoch,
         base_fee,
@@ -87,20 +90,30 @@ fn tipset_fields(value: &Value) -> Result<TipsetFields<'_>, FieldFault>
     })
 }
 
-/// The blocks of a tipset, each by itself.
+fn tipset_front(items: &[Value]) -> Result<(u64, Token, &Cid), FieldFault>
+    ensures found { IfOk result (λ front. tipset_front items.now ≡ Ok (front.0, front.1, front.2.now)) }
+    ensures fault { IfErr result (λ fault. tipset_front items.now ≡ Err fault) }
+{
+    let epoch = number_at(items, 0, (1 << 63) - 1)?;
+    let base_fee = token_at(items, 1)?;
+    let root = cid_at(items, 2)?;
+    Ok((epoch, base_fee, root))
+}
+
+/// The blocks of a tipset that are spelled so, each by itself.
 fn blocks_of(
     alloc: Global,
     tipset: u32,
-    values: &[Value],
+    list: &[&[u8]],
 ) -> Result<Row<TipBlock>, Failure<FormFault>>
-    requires { AreParts values.now }
-    ensures found { IfOk result (λ blocks. each_read (block_read tipset) 0 values.now ≡ Ok blocks) }
+    requires { ArePartTexts (map (λ s. s.now) list.now) }
+    ensures found { IfOk result (λ blocks. each_read (block_read tipset) 0 (the_values (map (λ s. s.now) list.now)) ≡ Ok blocks) }
     ensures fault { IfErr result (λ failure. IfFault failure (λ fault.
-        each_read (block_read tipset) 0 values.now ≡ Err fault)) }
+        each_read (block_read tipset) 0 (the_values (map (λ s. s.now) list.now)) ≡ Err fault)) }
 {
-    let mut blocks = Vec::with_capacity(alloc, values.len())?;
-    for (i, value) in values.iter().enumerate() {
-        let block = block_of(alloc, tipset, i as u32, value)?;
+    let mut blocks = Vec::with_capacity(alloc, list.len())?;
+    for (i, bytes) in list.iter().enumerate() {
+        let block = block_of(alloc, tipset, i as u32, bytes)?;
         blocks.push(block)?;
     }
     Ok(Row::of(blocks))
@@ -111,17 +124,17 @@ fn block_of(
     alloc: Global,
     tipset: u32,
     block: u32,
-    value: &Value,
+    bytes: &[u8],
 ) -> Result<TipBlock, Failure<FormFault>>
-    requires { IsPart value.now }
-    ensures found { IfOk result (λ found. block_read tipset block value.now ≡ Ok found) }
-    ensures fault { IfErr result (λ failure. IfFault failure (λ fault. block_read tipset block value.now ≡ Err fault)) }
+    requires { IsPartText bytes.now }
+    ensures found { IfOk result (λ found. block_read tipset block (the_value bytes.now) ≡ Ok found) }
+    ensures fault { IfErr result (λ failure. IfFault failure (λ fault. block_read tipset block (the_value bytes.now) ≡ Err fault)) }
 {
-    let fields = match block_fields(value) {
+    let fields = match block_fields(alloc, bytes) {
         Ok(fields) => fields,
-        Err(fault) => return Err(Failure::Fault((Place::block(tipset, block), fault))),
+        Err(failure) => return Err(failed_at(Place::block(tipset, block), failure)),
     };
-    let messages = messages_of(alloc, tipset, block, fields.messages)?;
+    let messages = messages_of(alloc, tipset, block, fields.messages.as_slice())?;
     Ok(TipBlock {
         miner: fields.miner,
         award: fields.award,
@@ -129,18 +142,23 @@ fn block_of(
     })
 }
 
-fn block_fields(value: &Value) -> Result<BlockFields<'_>, FieldFault>
-    ensures found { IfOk result (λ f. block_fields value.now ≡ Ok (record {
+fn block_fields(alloc: Global, bytes: &[u8]) -> Result<BlockFields<'_>, Failure<FieldFault>>
+    requires { IsPartText bytes.now }
+    ensures found { IfOk result (λ f. block_fields (the_value bytes.now) ≡ Ok (record {
       miner = f.miner;
       award = f.award;
-      messages = f.messages.now;
+      messages = the_values (map (λ s. s.now) f.messages.items);
     })) }
-    ensures fault { IfErr result (λ fault. block_fields value.now ≡ Err fault) }
+    ensures parts { IfOk result (λ f. ArePartTexts (map (λ s. s.now) f.messages.items)) }
+    ensures fault { IfErr result (λ failure. IfFault failure (λ fault. block_fields (the_value bytes.now) ≡ Err fault)) }
 {
-    let items = list_of(value, 3)?;
-    let miner = id_at(items, 0)?;
-    let award = token_at(items, 1)?;
-    let messages = items_at(items, 2)?;
+    let items = list_of(alloc, bytes, 3)?;
+    let front = values_of(alloc, &items[..2])?;
+    let (miner, award) = match block_front(front.as_slice()) {
+        Ok(front) => front,
+        Err(fault) => return Err(Failure::Fault(fault)),
+    };
+    let messages = items_at(alloc, items.as_slice(), 2)?;
     Ok(BlockFields {
         miner,
         award,
@@ -148,21 +166,31 @@ fn block_fields(value: &Value) -> Result<BlockFields<'_>, FieldFault>
     })
 }
 
-/// The messages of a block, each by itself.
+fn block_front(items: &[Value]) -> Result<(ActorId, Token), FieldFault>
+    ensures found { IfOk result (λ front. block_front items.now ≡ Ok (front.0, front.1)) }
+    ensures fault { IfErr result (λ fault. block_front items.now ≡ Err fault) }
+{
+    let miner = id_at(items, 0)?;
+    let award = token_at(items, 1)?;
+    Ok((miner, award))
+}
+
+/// The messages of a block that are spelled so, each by itself.
 fn messages_of(
     alloc: Global,
     tipset: u32,
     block: u32,
-    values: &[Value],
+    list: &[&[u8]],
 ) -> Result<Row<Message>, Failure<FormFault>>
-    requires { AreParts values.now }
-    ensures found { IfOk result (λ messages. each_read (message_read tipset block) 0 values.now ≡ Ok messages) }
+    requires { ArePartTexts (map (λ s. s.now) list.now) }
+    ensures found { IfOk result (λ messages.
+        each_read (message_read tipset block) 0 (the_values (map (λ s. s.now) list.now)) ≡ Ok messages) }
     ensures fault { IfErr result (λ failure. IfFault failure (λ fault.
-        each_read (message_read tipset block) 0 values.now ≡ Err fault)) }
+        each_read (message_read tipset block) 0 (the_values (map (λ s. s.now) list.now)) ≡ Err fault)) }
 {
-    let mut messages = Vec::with_capacity(alloc, values.len())?;
-    for (i, value) in values.iter().enumerate() {
-        let message = message_at(alloc, tipset, block, i as u32, value)?;
+    let mut messages = Vec::with_capacity(alloc, list.len())?;
+    for (i, bytes) in list.iter().enumerate() {
+        let message = message_at(alloc, tipset, block, i as u32, bytes)?;
         messages.push(message)?;
     }
     Ok(Row::of(messages))
@@ -174,13 +202,15 @@ fn message_at(
     tipset: u32,
     block: u32,
     message: u32,
-    value: &Value,
+    bytes: &[u8],
 ) -> Result<Message, Failure<FormFault>>
-    ensures found { IfOk result (λ found. message_read tipset block message value.now ≡ Ok found) }
+    requires { IsPartText bytes.now }
+    ensures found { IfOk result (λ found. message_read tipset block message (the_value bytes.now) ≡ Ok found) }
     ensures fault { IfErr result (λ failure. IfFault failure (λ fault.
-        message_read tipset block message value.now ≡ Err fault)) }
+        message_read tipset block message (the_value bytes.now) ≡ Err fault)) }
 {
-    match read_message(alloc, value) {
+    let value = value_of(alloc, bytes)?;
+    match read_message(alloc, &value) {
         Ok(found) => Ok(found),
         Err(Failure::NoMemory) => Err(Failure::NoMemory),
         Err(Failure::Fault(fault)) => {

@@ -1,6 +1,8 @@
 use Rattle.scenario_form.specs.Reading.{block_read}
+use Rattle.scenario_form.specs.Spelled.{the_values}
+use Rattle.scenario_form.proofs.PartTexts.{texts_of}
 use Rattle.scenario_form.proofs.Steps.{SoFar}
 use Rattle.scenario_form.proofs.tipset_fields.blocks_of.Given as goal
 
 abbrev pub invariant-loop-i : goal.invariant-loop-i
-invariant-loop-i l = SoFar (block_read l.tipset) l.values l.i l.blocks.items
+invariant-loop-i l = SoFar (block_read l.tipset) (the_values (texts_of l.list)) l.i l.blocks.items

@@ -1,27 +1,31 @@
 use Rattle.std.proofs.Common.{Ok, ap, arith, rules, sym, ◌∙◌}
+use Rattle.std.proofs.lemmas.List.{length-map}
 use Rattle.scenario_form.specs.Reading.{tipset_read}
+use Rattle.scenario_form.specs.Spelled.{the_values}
 use Rattle.scenario_form.proofs.Exits.{part_exit}
-use Rattle.scenario_form.proofs.Parts.{part_at, parts_few}
+use Rattle.scenario_form.proofs.PartTexts.{part_text_at, text, texts_of, value_at, values_count}
 use Rattle.scenario_form.proofs.Steps.{each_all, each_fault, each_more, each_none}
 use Rattle.scenario_form.proofs.tipset_fields.tipsets_of.Goals as goal
 
 pub loop-i-init : goal.loop-i-init
-loop-i-init c = each_none tipset_read c.args.values.now _ (search rules)
+loop-i-init c = each_none tipset_read (the_values (texts_of c.args.list.now)) _ (search rules)
 
 pub overflow_cast-i : goal.overflow_cast-i
-overflow_cast-i c = omega (arith, parts_few c.args.values.now c.requires)
+overflow_cast-i c = omega (arith, c.requires.few, length-map c.args.list.now text)
 
 pub tipset_of-requires : goal.tipset_of-requires
-tipset_of-requires c = part_at c.args.values.now c.loop-i.i c.index-values-i.result c.requires (omega arith) c.index-values-i.is
+tipset_of-requires c = part_text_at c.args.list.now c.loop-i.i _ c.requires.each (omega arith)
 
 pub loop-i-preserved : goal.loop-i-preserved
 loop-i-preserved c =
-    each_more tipset_read c.args.values.now c.loop-i.i c.index-values-i.result c.loop-i.tipsets.items _ _ (omega arith) c.index-values-i.is c.in_ok-tipset.ensures.found c.loop-i.invariant (search rules)
+    each_more tipset_read (the_values (texts_of c.args.list.now)) c.loop-i.i _ c.loop-i.tipsets.items _ _ (omega (arith, values_count c.args.list.now)) (sym (value_at c.args.list.now c.loop-i.i _ _ (omega arith))) c.in_ok-tipset.ensures.found c.loop-i.invariant (search rules)
 
 pub returns-in_err-tipset-clause-fault : goal.returns-in_err-tipset-clause-fault
 returns-in_err-tipset-clause-fault c =
     part_exit _ _ _ c.from_residual-in_err-tipset.result c.from_residual-in_err-tipset.ensures.1 c.in_err-tipset.ensures.fault
-    (λ fault refused. each_fault tipset_read c.args.values.now c.loop-i.i c.index-values-i.result c.loop-i.tipsets.items fault (omega arith) c.index-values-i.is refused c.loop-i.invariant)
+    (λ fault refused.
+    each_fault tipset_read (the_values (texts_of c.args.list.now)) c.loop-i.i _ c.loop-i.tipsets.items fault (omega (arith, values_count c.args.list.now)) (sym (value_at c.args.list.now c.loop-i.i _ _ (omega arith))) refused c.loop-i.invariant)
 
 pub returns-clause-found : goal.returns-clause-found
-returns-clause-found c = each_all tipset_read c.args.values.now c.loop-i.i _ (omega arith) c.loop-i.invariant ∙ ap Ok (sym c.of.ensures)
+returns-clause-found c =
+    each_all tipset_read (the_values (texts_of c.args.list.now)) c.loop-i.i _ (omega (arith, values_count c.args.list.now)) c.loop-i.invariant ∙ ap Ok (sym c.of.ensures)
