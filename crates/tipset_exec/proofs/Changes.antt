@@ -53,6 +53,15 @@ pub record IsChanged (s : State) (t : State) (id : ℕ) (before : ℕ) (after : 
 got : (actors : Actors) (id : ℕ) (a : Actor) (q : ℕ) → get (insert actors id a) q ≡ cond (eqb q id) (Some a) (get actors q)
 got actors id a q = get-insert nat_cmp_total actors id a q ∙ ap (λ b. cond b (Some a) (get actors q)) (eq_by_nat_cmp q id)
 
+-- another actor stays
+pub other_actor : (s : State) (id q : ℕ) (change : Actor → Actor) → q ≢ id → get (with_changed s id change).actors q ≡ get s.actors q
+other_actor s id q change other =
+    elim (get s.actors id) as (λ o. get s.actors id ≡ o → get (with_changed s id change).actors q ≡ get s.actors q) [
+      | None ↦ λ none. ap (λ (t : State). get t.actors q) (changed_none s id change none)
+      | (Some actor) ↦ λ there.
+          ap (λ (t : State). get t.actors q) (changed_there s id change actor there) ∙ got s.actors id (change actor) q ∙ ap (λ b. cond b (Some (change actor)) (get s.actors q)) (ne_eqb q id other)
+    ] refl
+
 same_code : (actors : Actors) (id : ℕ) (old a : Actor) (q : ℕ) → get actors id ≡ Some old → a.code ≡ old.code
     → option_map (λ (x : Actor). x.code) (get (insert actors id a) q) ≡ option_map (λ (x : Actor). x.code) (get actors q)
 same_code actors id old a q there same =

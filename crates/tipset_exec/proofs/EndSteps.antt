@@ -45,8 +45,8 @@ judged_fault rules s m name found id actor fault exit named is read there judged
     ap (sender_fault rules m) (sender_there s m id actor (sym named ∙ is) (sym read ∙ there)) ∙ sym judged ∙ wrong
 
 pub judged_sender : (rules : Rules) (s : State) (m : Message) (name : Option ℕ) (found : Option Actor) (id : ℕ) (actor : Actor) (fault : Option ℕ) → name ≡ resolved s.names m.from → name ≡ Some id
-    → found ≡ get s.actors id → found ≡ Some actor → fault ≡ sender_fault rules m (Some (id, actor)) → fault ≡ None → IsJudged rules s m (Ok id)
-judged_sender rules s m name found id actor fault named is read there judged none = (actor, sender_there s m id actor (sym named ∙ is) (sym read ∙ there), sym judged ∙ none)
+    → found ≡ get s.actors id → found ≡ Some actor → fault ≡ sender_fault rules m (Some (id, actor)) → fault ≡ None → IsJudged rules s m (Ok (id, actor))
+judged_sender rules s m name found id actor fault named is read there judged none = (sender_there s m id actor (sym named ∙ is) (sym read ∙ there), sym judged ∙ none)
 
 -- ---- a value moves
 

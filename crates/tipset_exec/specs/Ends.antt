@@ -23,10 +23,10 @@ pub record IsSender (rules : Rules) (s : State) (m : Message) (id : ℕ) (actor 
   pub sequence : actor.sequence ≡ m.nonce
   pub enough : greatest_cost m ≤ actor.balance
 
--- the sender's ID, or why the message may not run
-abbrev pub IsJudged : Rules → State → Message → Result ℕ ℕ → Type 0
-IsJudged rules s m (Ok id) =
-    (actor : Actor) × (sender_of s m ≡ Some (id, actor)) × (sender_fault rules m (Some (id, actor)) ≡ None)
+-- the sender, with its ID, or why the message may not run
+abbrev pub IsJudged : Rules → State → Message → Result (ℕ × Actor) ℕ → Type 0
+IsJudged rules s m (Ok sender) =
+    (sender_of s m ≡ Some (sender.0, sender.1)) × (sender_fault rules m (Some (sender.0, sender.1)) ≡ None)
 IsJudged rules s m (Err exit) = sender_fault rules m (sender_of s m) ≡ Some exit
 
 -- the exit code, the ledger and the gas that is left are those of the end of a call; nothing was returned, and no code ran

@@ -1,4 +1,5 @@
-ghost use Rattle.std.specs.Prelude.{◌≡◌, ◌≢◌, ◌≤◌, ℕ, IfOk, length};
+ghost use Rattle.std.specs.Prelude.{◌≡◌, ◌≢◌, ◌≤◌, ℕ, IfOk, Some, length};
+ghost use Rattle.std.specs.FinMap.{get};
 ghost use Rattle.fil_message.specs.Sound.{IsMessage};
 ghost use Rattle.state_model.specs.State.{State};
 ghost use Rattle.tipset_exec.specs.Balances.{burnt_funds_id, moved, reward_id};
@@ -16,6 +17,7 @@ use fil_base::{
 };
 use fil_message::Message;
 use gas_prices::{Meter, Price, Rules};
+use state_tree::Actor;
 
 /// Charges the gas for a message's inclusion and for a call, and calls the receiver. It gives the call's exit code; where
 /// that is not 0, the state is as before.
@@ -61,7 +63,7 @@ fn call(
         (called rules.now s meter.old.left (call_in from message.now))) }
     ensures limit { meter.new.limit ≡ meter.old.limit }
 {
-    let Some(to) = ledger.receiver(base, &message.to)? else {
+    let Some(receiver) = ledger.receiver(base, &message.to)? else {
         return Ok(ExitCode::new(SYS_INVALID_RECEIVER));
     };
     if message.value.number() == 0 {
@@ -70,7 +72,7 @@ fn call(
     if meter.charge(rules.prices.of(Price::Transfer)).is_err() {
         return Ok(ExitCode::new(SYS_OUT_OF_GAS));
     }
-    transfer(base, ledger, from, to, message.value)
+    transfer(base, ledger, from, receiver, message.value)
 }
 
 /// Moves a value, if the sender has as much.
@@ -78,16 +80,17 @@ fn transfer(
     base: &Base,
     ledger: &mut Ledger,
     from: ActorId,
-    to: ActorId,
+    to: (ActorId, Actor),
     value: Token,
 ) -> Mem<ExitCode>
-    requires { (s : State) × Stands ledger.old base.now s × (value ≤ held s from → IsWithin (moved s from to value)) }
-    ensures { (s : State) (gas : ℕ) → Stands ledger.old base.now s
-        → IfOk result (λ exit. IsEnd exit ledger.new gas base.now (transfer s gas from to value)) }
+    requires { (s : State) × Stands ledger.old base.now s × (get s.actors to.0 ≡ Some to.1)
+        × (value ≤ held s from → IsWithin (moved s from to.0 value)) }
+    ensures { (s : State) (gas : ℕ) → Stands ledger.old base.now s → get s.actors to.0 ≡ Some to.1
+        → IfOk result (λ exit. IsEnd exit ledger.new gas base.now (transfer s gas from to.0 value)) }
 {
     if ledger.balance(base, from)?.number() < value.number() {
         return Ok(ExitCode::new(SYS_INSUFFICIENT_FUNDS));
     }
-    ledger.transfer(base, from, to, value.number())?;
+    ledger.transfer_to(base, from, to, value.number())?;
     Ok(ExitCode::new(EXIT_OK))
 }

@@ -1,4 +1,5 @@
-ghost use Rattle.std.specs.Prelude.{◌≡◌, ◌+◌, ◌-◌, ◌≤◌, ◌<◌, ◌^◌, Err, IfErr, IfOk, List, Ok, OnOk, Some};
+ghost use Rattle.std.specs.Prelude.{◌≡◌, ◌+◌, ◌-◌, ◌≤◌, ◌<◌, ◌^◌, Err, IfErr, IfOk, IfSome, List, Ok, OnOk, Some};
+ghost use Rattle.std.specs.Option.{option_map};
 ghost use Rattle.std.specs.FinMap.{get, insert};
 ghost use Rattle.cid_core.specs.BlockParts.{BlockParts};
 ghost use Rattle.fil_base.specs.Failure.{IfFault};
@@ -7,7 +8,6 @@ ghost use Rattle.fil_message.specs.Sound.{IsMessage};
 ghost use Rattle.init_names.specs.Resolving.{resolved};
 ghost use Rattle.state_model.specs.State.{State, state_nodes, state_root};
 ghost use Rattle.state_model.specs.StateAt.{state_at};
-ghost use Rattle.state_tree.specs.declared.actor.Actor.{Actor as OneActor};
 ghost use Rattle.tree_blocks.specs.NewBlocks.{new_blocks};
 ghost use Rattle.tipset_exec.specs.Balances.{burned, burnt_funds_id, minted, moved, paid, reward_id, with_less, with_more};
 ghost use Rattle.tipset_exec.specs.Calls.{actor_named};
@@ -108,17 +108,19 @@ impl Ledger {
         self.names.resolve(base, address)
     }
 
-    /// The ID of the actor that an address names.
-    pub(crate) fn receiver(&self, base: &Base, address: &Address) -> Mem<Option<ActorId>>
-        ensures { (s : State) → Stands self.now base.now s → IfOk result (λ id. id ≡ actor_named s address.now) }
+    /// The actor that an address names, with its ID.
+    pub(crate) fn receiver(&self, base: &Base, address: &Address) -> Mem<Option<(ActorId, Actor)>>
+        ensures found { (s : State) → Stands self.now base.now s → IfOk result (λ found.
+            option_map (λ receiver. receiver.0) found ≡ actor_named s address.now) }
+        ensures actor { (s : State) → Stands self.now base.now s → IfOk result (λ found.
+            IfSome found (λ receiver. get s.actors receiver.0 ≡ Some receiver.1)) }
     {
         let Some(id) = self.resolve(base, address)? else {
             return Ok(None);
         };
-        if self.actor(base, id)?.is_some() {
-            Ok(Some(id))
-        } else {
-            Ok(None)
+        match self.actor(base, id)? {
+            Some(actor) => Ok(Some((id, actor))),
+            None => Ok(None),
         }
     }
 
@@ -137,12 +139,20 @@ impl Ledger {
             → OnOk result (Stands self.new base.now (with_more s id amount)) }
     {
         match self.actor(base, id)? {
-            Some(actor) => {
-                let balance = sum_of(actor.balance, amount);
-                self.put(base, id, with_balance(actor, balance))
-            }
+            Some(actor) => self.give_to(base, id, actor, amount),
             None => Ok(()),
         }
+    }
+
+    /// Gives the actor that is under an ID an amount.
+    fn give_to(&mut self, base: &Base, id: ActorId, actor: Actor, amount: u128) -> Mem<()>
+        requires { (s : State) × Stands self.old base.now s × (get s.actors id ≡ Some actor)
+            × IsWithin (with_more s id amount) }
+        ensures { (s : State) → Stands self.old base.now s → get s.actors id ≡ Some actor
+            → OnOk result (Stands self.new base.now (with_more s id amount)) }
+    {
+        let balance = sum_of(actor.balance, amount);
+        self.put(base, id, with_balance(actor, balance))
     }
 
     /// Takes an amount from an actor, if it is there.
@@ -160,21 +170,23 @@ impl Ledger {
         }
     }
 
-    /// Raises the sequence number of a message's sender, and takes the most that the message's gas can cost from it.
-    pub(crate) fn set_aside(&mut self, base: &Base, id: ActorId, message: &Message) -> Mem<()>
+    /// Raises the sequence number of a message's sender, the actor under an ID, and takes the most that the message's gas
+    /// can cost from it.
+    pub(crate) fn set_aside(
+        &mut self,
+        base: &Base,
+        id: ActorId,
+        actor: Actor,
+        message: &Message,
+    ) -> Mem<()>
         requires message { IsMessage message.now }
-        requires sender { (s : State) × (actor : OneActor) × Stands self.old base.now s × (get s.actors id ≡ Some actor)
-            × (actor.sequence + 1 < 2 ^ 64) × (greatest_cost message.now ≤ actor.balance) }
-        ensures { (s : State) → Stands self.old base.now s
+        requires sequence { actor.sequence + 1 < 2 ^ 64 }
+        requires balance { greatest_cost message.now ≤ actor.balance }
+        ensures { (s : State) → Stands self.old base.now s → get s.actors id ≡ Some actor
             → OnOk result (Stands self.new base.now (set_aside s id message.now)) }
     {
-        match self.actor(base, id)? {
-            Some(actor) => {
-                let balance = rest_of(actor.balance, greatest_cost(message));
-                self.put(base, id, with_next_sequence(with_balance(actor, balance)))
-            }
-            None => Ok(()),
-        }
+        let balance = rest_of(actor.balance, greatest_cost(message));
+        self.put(base, id, with_next_sequence(with_balance(actor, balance)))
     }
 
     /// Burns an amount: it goes to the burnt funds, and is recorded.
@@ -215,6 +227,27 @@ impl Ledger {
     {
         self.take(base, from, amount)?;
         self.pay(base, to, amount)
+    }
+
+    /// Moves an amount from one actor to another, which is the one under its ID.
+    pub(crate) fn transfer_to(
+        &mut self,
+        base: &Base,
+        from: ActorId,
+        to: (ActorId, Actor),
+        amount: u128,
+    ) -> Mem<()>
+        requires { (s : State) × Stands self.old base.now s × (get s.actors to.0 ≡ Some to.1) × (amount ≤ held s from)
+            × IsWithin (moved s from to.0 amount) }
+        ensures { (s : State) → Stands self.old base.now s → get s.actors to.0 ≡ Some to.1
+            → OnOk result (Stands self.new base.now (moved s from to.0 amount)) }
+    {
+        let (id, actor) = to;
+        if id == from || id == burnt_funds() {
+            return self.transfer(base, from, id, amount);
+        }
+        self.take(base, from, amount)?;
+        self.give_to(base, id, actor, amount)
     }
 
     /// Mints an amount, which the reward actor gets.

@@ -1,10 +1,10 @@
-ghost use Rattle.std.specs.Prelude.{◌≡◌, ◌+◌, ◌*◌, ◌≤◌, ℕ, IfOk, OnOk, length, min};
+ghost use Rattle.std.specs.Prelude.{◌≡◌, ◌+◌, ◌*◌, ◌≤◌, ℕ, IfOk, OnOk, Some, length, min};
+ghost use Rattle.std.specs.FinMap.{get};
 ghost use Rattle.fee_rules.specs.declared.fees.TheConstants.{BLOCK_GAS_LIMIT};
 ghost use Rattle.fil_message.specs.Layout.{message_spelling};
 ghost use Rattle.fil_message.specs.Sound.{IsMessage};
 ghost use Rattle.fil_message.specs.Tipsets.{IsShortMessage};
 ghost use Rattle.state_model.specs.State.{State};
-ghost use Rattle.state_tree.specs.declared.actor.Actor.{Actor as OneActor};
 ghost use Rattle.tipset_exec.specs.Balances.{burned, reward_id, with_more};
 ghost use Rattle.tipset_exec.specs.Ends.{IsOutcome, IsSender};
 ghost use Rattle.tipset_exec.specs.Funds.{IsFunded, IsWithin};
@@ -21,6 +21,7 @@ use fee_rules::{Fees, outputs};
 use fil_base::{ActorId, ExitCode, Gas, Mem};
 use fil_message::{Message, Tipset};
 use gas_prices::{Meter, Rules};
+use state_tree::Actor;
 
 /// What a message did, besides its changes of the state. It returned nothing.
 #[derive(Clone, Copy, Debug)]
@@ -60,7 +61,7 @@ pub(crate) fn apply(
     }
     match judge_sender(base, rules, ledger, message)? {
         Err(exit) => Ok(not_run(tipset, message, inclusion, exit)),
-        Ok(id) => run(base, rules, tipset, ledger, id, message, inclusion),
+        Ok(sender) => run(base, rules, tipset, ledger, sender, message, inclusion),
     }
 }
 
@@ -89,20 +90,21 @@ fn run(
     rules: &Rules,
     tipset: &Tipset,
     ledger: &mut Ledger,
-    id: ActorId,
+    sender: (ActorId, Actor),
     message: &Message,
     inclusion: u64,
 ) -> Mem<Outcome>
-    requires sender { (s : State) × (actor : OneActor) × (due : ℕ) × (tips : ℕ) × Stands ledger.old base.now s
-        × IsSender rules.now s message.now id actor × IsFunded rules.now.codes.account s 0 due tips }
+    requires sender { (s : State) × (due : ℕ) × (tips : ℕ) × Stands ledger.old base.now s
+        × IsSender rules.now s message.now sender.0 sender.1 × IsFunded rules.now.codes.account s 0 due tips }
     requires message { IsMessage message.now }
     requires inclusion { inclusion ≡ inclusion_gas rules.now message.now }
-    ensures { (s : State) → Stands ledger.old base.now s
-        → IfOk result (λ outcome. IsOutcome outcome ledger.new base.now
-        (ended tipset.now id message.now (call_end rules.now (set_aside s id message.now) id message.now))) }
+    ensures { (s : State) → Stands ledger.old base.now s → get s.actors sender.0 ≡ Some sender.1
+        → IfOk result (λ outcome. IsOutcome outcome ledger.new base.now (ended tipset.now sender.0 message.now
+        (call_end rules.now (set_aside s sender.0 message.now) sender.0 message.now))) }
 {
+    let (id, actor) = sender;
     let mut meter = Meter::new(message.limit);
-    ledger.set_aside(base, id, message)?;
+    ledger.set_aside(base, id, actor, message)?;
     let exit = run_call(base, rules, ledger, &mut meter, id, message, inclusion)?;
     let used = meter.used();
     let fees = outputs(

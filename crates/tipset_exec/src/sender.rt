@@ -14,13 +14,13 @@ use fil_message::Message;
 use gas_prices::Rules;
 use state_tree::Actor;
 
-/// The sender's ID, or the exit code that says why a message may not run.
+/// The sender with its ID, or the exit code that says why a message may not run.
 pub(crate) fn judge_sender(
     base: &Base,
     rules: &Rules,
     ledger: &Ledger,
     message: &Message,
-) -> Mem<Result<ActorId, u32>>
+) -> Mem<Result<(ActorId, Actor), u32>>
     requires { IsMessage message.now }
     ensures { (s : State) → Stands ledger.now base.now s
         → IfOk result (IsJudged rules.now s message.now) }
@@ -33,7 +33,7 @@ pub(crate) fn judge_sender(
     };
     match sender_fault(rules, message, id, &actor) {
         Some(exit) => Ok(Err(exit)),
-        None => Ok(Ok(id)),
+        None => Ok(Ok((id, actor))),
     }
 }
 

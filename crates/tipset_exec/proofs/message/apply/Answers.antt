@@ -25,7 +25,7 @@ pub run-requires-clause-sender : goal.run-requires-clause-sender
 run-requires-clause-sender c =
     let r = c.requires.funded in
     let j = subst (IsJudged c.args.rules.now r.0 c.args.message.now) c.in-Ok.is (c.in_ok-exit.ensures r.0 r.3) in
-    (r.0, j.0, r.1, r.2, r.3, sender_is c.args.rules.now r.0 c.args.message.now c.in-Ok.id j.0 j.1 j.2, r.4)
+    (r.0, r.1, r.2, r.3, sender_is c.args.rules.now r.0 c.args.message.now c.in-Ok.sender.0 c.in-Ok.sender.1 j.0 j.1, r.4)
 
 pub returns-in-Err : goal.returns-in-Err
 returns-in-Err c = λ s stands.
@@ -42,10 +42,10 @@ returns-in-Ok c = λ s stands.
     let rules = c.args.rules.now in
     let t = c.args.tipset.now in
     let m = c.args.message.now in
-    let id = c.in-Ok.id in
+    let id = c.in-Ok.sender.0 in
     let gas : c.inclusion_gas-inclusion.result ≡ inclusion_gas rules m =
     c.inclusion_gas-inclusion.ensures ∙ ap (λ (n : ℕ). price_of rules price.Include + price_of rules price.IncludeByte * n) c.requires.size in
     let fits : c.inclusion_gas-inclusion.result ≤ m.limit = omega (arith, c.if-number-inclusion.false, c.number.ensures) in
     let j = subst (IsJudged rules s m) c.in-Ok.is (c.in_ok-exit.ensures s stands) in
     IfOk-weaker c.run.result (λ o. IsOutcome o c.run.new.ledger c.args.base.now (ended t id m (call_end rules (set_aside s id m) id m))) (λ o. IsOutcome o c.run.new.ledger c.args.base.now (applied rules t s m))
-    (λ o is. ran rules t s m id j.0 c.inclusion_gas-inclusion.result o c.run.new.ledger c.args.base.now gas fits j.1 j.2 is) (c.run.ensures s stands)
+    (λ o is. ran rules t s m id c.in-Ok.sender.1 c.inclusion_gas-inclusion.result o c.run.new.ledger c.args.base.now gas fits j.0 j.1 is) (c.run.ensures s stands (sender_is rules s m id c.in-Ok.sender.1 j.0 j.1).there)

@@ -1,6 +1,8 @@
-use Rattle.tipset_exec.proofs.LedgerSteps.{gift_fits}
+use Rattle.std.proofs.Common.{sym, ◌∙◌}
 use Rattle.tipset_exec.proofs.ledger.Ledger.give.Goals as goal
 
-pub sum_of-balance-requires : goal.sum_of-balance-requires
-sum_of-balance-requires c =
-    gift_fits c.requires.0 c.args.id c.args.amount c.in_ok-actor.field-0 c.in-Some.actor (c.in_ok-actor.ensures c.requires.0 c.requires.1) c.in-Some.is c.requires.2
+pub give_to-requires : goal.give_to-requires
+give_to-requires c = let r = c.requires in (r.0, r.1, sym (c.in_ok-actor.ensures r.0 r.1) ∙ c.in-Some.is, r.2)
+
+pub returns-in-Some : goal.returns-in-Some
+returns-in-Some c = λ s stands. c.give_to.ensures s stands (sym (c.in_ok-actor.ensures s stands) ∙ c.in-Some.is)
