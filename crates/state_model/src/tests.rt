@@ -7,7 +7,6 @@ use gas_prices::Codes;
 use init_names::Names;
 use state_tree::{Actor, StateTree, state_blocks};
 use std::test::Fail;
-use tree_blocks::NoBlocks;
 
 // The blocks are by a Python program that spells HAMTs and DAG-CBOR by itself, with `hashlib`. The tree of no names, the
 // init actor's state over it with the next ID 100 and the network `test`, the tree of the actors 1 (init, with this head),
@@ -193,13 +192,6 @@ fn flushed(rt: HostRuntime, stored: &Stored) -> Result<(Cid, Row<Block>), Fail> 
     Ok(flush_state(&stored.base, &mut tree, &mut names)?)
 }
 
-// The same over a base of no blocks.
-fn flushed_whole(rt: HostRuntime, stored: &Stored) -> Result<(Cid, Row<Block>), Fail> {
-    let mut tree = loaded_tree(rt, stored)?;
-    let mut names = loaded_names(rt, stored)?;
-    Ok(flush_state(&NoBlocks, &mut tree, &mut names)?)
-}
-
 // Gives the reward actor another balance.
 fn set_reward(
     rt: HostRuntime,
@@ -265,9 +257,9 @@ fn the_init_actor_gets_its_head(rt: HostRuntime) -> Result<(), Fail> {
         OTHER_HEAD_ACTORS,
         OTHER_HEAD_ROOT,
     )?;
-    let (root, blocks) = flushed_whole(rt, &old)?;
+    let (root, blocks) = flushed(rt, &old)?;
     assert!(rt; root == cid_of(rt, NAMED_ROOT)?);
-    assert!(rt; are(&blocks, &[ONE_NAME, NAMED_STATE, NAMED_ACTORS, NAMED_ROOT]));
+    assert!(rt; are(&blocks, &[NAMED_ACTORS, NAMED_ROOT]));
     Ok(())
 }
 
