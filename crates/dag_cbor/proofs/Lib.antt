@@ -22,3 +22,5 @@ mod CidForms
 mod SkipSteps
 mod SkipFronts
 pub mod Fronts
+mod ItemTexts
+mod UsualLinks

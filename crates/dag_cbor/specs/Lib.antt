@@ -9,3 +9,4 @@ pub mod Faults
 pub mod Links
 pub mod Behind
 pub mod CidForm
+pub mod UsualLink

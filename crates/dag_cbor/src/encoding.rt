@@ -10,12 +10,15 @@ use crate::writing::{put_bool, put_head, put_integer, put_link, put_string};
 use fil_base::{Bytes, Mem};
 use std::alloc::Global;
 
+/// The room that is made at first for a spelling, in bytes. Few values in the trees of the chain need more.
+const USUAL_LEN: usize = 64;
+
 /// The one spelling of a value.
 pub fn encode(alloc: Global, value: &Value) -> Mem<Bytes>
     requires { IsPlain MAX_DEPTH value.now }
     ensures { IfOk result (λ bytes. bytes ≡ spelled value.now) }
 {
-    let mut out = Vec::new(alloc);
+    let mut out = Vec::with_capacity(alloc, USUAL_LEN)?;
     put_value(&mut out, MAX_DEPTH, value)?;
     Ok(Bytes::of(out))
 }

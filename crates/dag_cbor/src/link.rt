@@ -6,6 +6,7 @@ ghost use Rattle.dag_cbor.specs.Behind.{link_bytes_at};
 use crate::fault::{CborKind, Flaw};
 use crate::head::{BYTES, head_of};
 use crate::text::blob_of;
+use crate::usual_link::{usual_cid, usual_digest};
 use fil_base::{Cid, Failure, Mem, NoMemory, read_cid};
 use std::alloc::Global;
 
@@ -44,6 +45,9 @@ pub fn link_bytes_of(left: u64, bytes: &[u8]) -> Result<(&[u8], &[u8]), Flaw>
 fn cid_in(alloc: Global, bytes: &[u8]) -> Mem<Option<Cid>>
     ensures { IfOk result (λ cid. cid ≡ linked bytes.now) }
 {
+    if let Some(digest) = usual_digest(bytes) {
+        return usual_cid(alloc, digest);
+    }
     match bytes.split_first() {
         Some((0, rest)) => whole_cid(alloc, rest),
         _ => Ok(None),

@@ -7,12 +7,16 @@ use crate::head::{BYTES, Head, LIST, MAP, TAG, TEXT, head_of};
 use crate::key::{any_key_of, next_key_of};
 use crate::link_form::skip_link;
 use crate::text::{blob_of, text_of};
+use crate::usual_link::behind_usual_link;
 
 /// The bytes behind the item at the front, which nests at most so deep.
 #[cycle(skipping)]
 pub fn skip_item(depth: u64, bytes: &[u8]) -> Result<&[u8], Flaw>
     ensures { Gives (λ rest. rest.now) result (behind (item_at depth bytes.now)) }
 {
+    if let Some(rest) = behind_usual_link(depth, bytes) {
+        return Ok(rest);
+    }
     let left = bytes.len() as u64;
     let (head, after) = head_of(bytes)?;
     if depth == 0 {

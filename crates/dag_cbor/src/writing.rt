@@ -6,6 +6,7 @@ ghost use Rattle.dag_cbor.specs.Spelling.{head, spelled_layer};
 
 use crate::head::{BYTES, NATURAL, NEGATIVE, SIMPLE, TAG};
 use crate::rows::LINK;
+use crate::usual_link::{is_usual, put_usual_link};
 use fil_base::{Cid, Mem, write_cid};
 
 /// Writes the head of an item behind the bytes that are there: its major type, and its number in as few bytes as hold
@@ -66,6 +67,17 @@ pub fn put_bool(out: &mut Vec<u8>, truth: bool) -> Mem<()>
 
 /// Writes a link: the tag 42, and a byte string of 00 and the CID.
 pub fn put_link(out: &mut Vec<u8>, cid: &Cid) -> Mem<()>
+    ensures { IfOk result (λ _. out.new.items ≡ out.old.items ++ spelled_layer (layer.Link cid.now)) }
+{
+    if is_usual(cid) {
+        put_usual_link(out, cid.digest())
+    } else {
+        put_any_link(out, cid)
+    }
+}
+
+/// Writes a link of any CID.
+fn put_any_link(out: &mut Vec<u8>, cid: &Cid) -> Mem<()>
     ensures { IfOk result (λ _. out.new.items ≡ out.old.items ++ spelled_layer (layer.Link cid.now)) }
 {
     let len = link_len(out, cid)?;

@@ -13,6 +13,5 @@ mod Runs
 mod Steps
 mod TipsetReads
 mod WithinLimits
-mod ItemTexts
 mod PartTexts
 mod FieldSteps

@@ -7,7 +7,6 @@
 #![tactic(auto)]
 
 mod fault;
-mod item_texts;
 mod judging;
 mod laws;
 mod limits;

@@ -5,9 +5,8 @@ ghost use Rattle.fil_base.specs.Failure.{IfFault};
 ghost use Rattle.fil_message.specs.Reading.{fields_of};
 ghost use Rattle.scenario_form.specs.Spelled.{ArePartTexts, IsPartText, the_value, the_values};
 
-use crate::item_texts::items_in;
 use cbor_fields::{FieldFault, FieldKind};
-use dag_cbor::{Value, decode};
+use dag_cbor::{Value, decode, items_in};
 use fil_base::{Failure, Mem, NoMemory};
 use std::alloc::Global;
 

@@ -18,8 +18,8 @@ skip_item-returns-in-4 t c = rw (list_behind c.args.depth c.args.bytes.now c.in_
 pub skip_item-returns-in-5 : goal.skip_item-returns-in-5
 skip_item-returns-in-5 t c = rw (map_behind c.args.depth c.args.bytes.now c.in_ok-head.head c.in_ok-head.after.now c.in_ok-head.ensures c.if-depth-eq0.false c.in-5.is) c.skip_pairs.ensures
 
-pub skip_item-returns-in_default : goal.skip_item-returns-in_default
-skip_item-returns-in_default t c =
+pub skip_item-returns-in_default-major : goal.skip_item-returns-in_default-major
+skip_item-returns-in_default-major t c =
     rw (token_behind c.args.depth c.args.bytes.now c.in_ok-head.head c.in_ok-head.after.now c.in_ok-head.ensures c.if-depth-eq0.false (λ is. omega arith) (λ is. omega arith)) c.skip_content.ensures
 
 pub skip_items-returns-in_err-rest : goal.skip_items-returns-in_err-rest

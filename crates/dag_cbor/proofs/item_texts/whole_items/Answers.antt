@@ -1,8 +1,8 @@
 use Rattle.std.proofs.Common.{Bor, List, ℕ, [], ◌∷◌, map, ap, sym, ◌∙◌, arith}
 use Rattle.std.proofs.lemmas.Bool.{eqb-false, eqb-true}
 use Rattle.std.proofs.lemmas.List.{map-append, nil_from_length}
-use Rattle.scenario_form.proofs.ItemTexts.{all_cut, bytes_left, no_front, none_yet, one_more}
-use Rattle.scenario_form.proofs.item_texts.whole_items.Goals as goal
+use Rattle.dag_cbor.proofs.ItemTexts.{all_cut, bytes_left, no_front, none_yet, one_more}
+use Rattle.dag_cbor.proofs.item_texts.whole_items.Goals as goal
 
 abbrev text : Bor (List ℕ) → List ℕ
 text s = s.now

@@ -1,6 +1,6 @@
 use Rattle.std.proofs.Common.{rules}
-use Rattle.scenario_form.proofs.ItemTexts.{found_so, list_is, no_list, no_list_head, none_so}
-use Rattle.scenario_form.proofs.item_texts.items_in.Goals as goal
+use Rattle.dag_cbor.proofs.ItemTexts.{found_so, list_is, no_list, no_list_head, none_so}
+use Rattle.dag_cbor.proofs.item_texts.items_in.Goals as goal
 
 pub returns-in-Some-clause-found : goal.returns-in-Some-clause-found
 returns-in-Some-clause-found c =

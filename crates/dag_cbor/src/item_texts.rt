@@ -5,13 +5,14 @@ ghost use Rattle.dag_cbor.specs.declared.value.Value.TheVariants as v;
 ghost use Rattle.dag_cbor.specs.Plain.{IsPlain};
 ghost use Rattle.dag_cbor.specs.Spelling.{joined, spelled};
 
-use dag_cbor::{MAX_DEPTH, list_head, split_item};
+use crate::decoding::MAX_DEPTH;
+use crate::front::{list_head, split_item};
 use fil_base::Mem;
 use std::alloc::Global;
 
 /// The spellings of the items of the list that the bytes spell, all of them; none where they spell no list. The items are
 /// judged, and not made.
-pub(crate) fn items_in(alloc: Global, bytes: &[u8]) -> Mem<Option<Vec<&[u8]>>>
+pub fn items_in(alloc: Global, bytes: &[u8]) -> Mem<Option<Vec<&[u8]>>>
     // The bytes are the spelling of a list, of whose items these are the spellings.
     ensures found { IfOk result (λ found. IfSome found (λ spellings. (items : List Value) × IsPlain 128 (v.List items)
         × (bytes.now ≡ spelled (v.List items)) × (map (λ s. s.now) spellings.items ≡ map spelled items))) }

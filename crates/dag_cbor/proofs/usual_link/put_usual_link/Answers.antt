@@ -1,0 +1,5 @@
+use Rattle.dag_cbor.proofs.UsualLinks.{usual_put}
+use Rattle.dag_cbor.proofs.usual_link.put_usual_link.Goals as goal
+
+pub returns : goal.returns
+returns c = usual_put c.args.out.now.items _ _ c.args.digest.now c.requires c.in_ok-extend_from_slice.ensures.items c.in_ok-extend_from_slice-2.ensures.items
