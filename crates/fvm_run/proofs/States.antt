@@ -2,8 +2,8 @@
 use Rattle.std.proofs.Common.{◌≡◌, ℕ, ◌+◌, ◌<◌, ◌≤◌, suc, Bool, true, false, cond, ltb, not, List, [], ◌∷◌, ◌++◌, length, map, get_or, take, drop, Option, None, Some, Result, Ok, Err, IfOk, IfErr, refl, sym, ap, subst, ◌∙◌, ◌⊎◌, inl, inr, add-one, drop-cons, arith}
 use Rattle.std.specs.List.{All, AllByRecursion}
 use Rattle.std.proofs.lemmas.Bool.{ltb-false}
-use Rattle.std.proofs.lemmas.List.{drop_all, get_or-map, length-map, map-append, take_more}
-use Rattle.std.proofs.lemmas.List.Elements.{All-cons, All-from_recursion, All-map, All-nil, recursion_from_All}
+use Rattle.std.proofs.lemmas.List.{drop_all, get_or-map, length-map, length-take-le, map-append, take_more}
+use Rattle.std.proofs.lemmas.List.Elements.{All-cons, All-from_recursion, All-nil, recursion_from_All}
 use Rattle.cid_core.specs.BlockParts.{BlockParts}
 use Rattle.fil_base.specs.CidParts.{CidParts}
 use Rattle.fil_message.specs.Tipsets.{IsRules, IsTipset, awards}
@@ -11,7 +11,8 @@ use Rattle.fil_message.specs.declared.tipset.Report.{Report}
 use Rattle.fil_message.specs.declared.tipset.Tipset.{Tipset}
 use Rattle.gas_prices.specs.declared.rules.Codes.{Codes}
 use Rattle.gas_prices.specs.declared.rules.Rules.{Rules}
-use Rattle.report_text.specs.Text.{HasRootTexts}
+use Rattle.report_text.specs.Text.{HasRootTexts, reports_text, tipset_text}
+use Rattle.report_text.proofs.Lines.{one_more}
 use Rattle.scenario_form.specs.Answer.{IsScenario}
 use Rattle.scenario_form.specs.Judging.{tipset_judged, tipsets_judged}
 use Rattle.scenario_form.specs.declared.fault.ScenarioFault.{ScenarioFault}
@@ -25,7 +26,7 @@ use Rattle.fvm_run.specs.declared.refusal.Refusal.TheVariants.{NotBuilt}
 use Rattle.fvm_run.specs.declared.stop.Stop.{Stop}
 use Rattle.fvm_run.specs.declared.stop.Stop.TheVariants.{ReadFailed, NoMemory, Refused}
 use Rattle.fvm_run.specs.Answers.{BeginsAsList, IsRunAnswer}
-use Rattle.fvm_run.specs.Cars.{AreBuilt, AreEvaluable, AreReportsOn, HasScenario, HaveStates, IsTextOf, IsUnbuiltRefusal, first_not_built, reports_on}
+use Rattle.fvm_run.specs.Cars.{AreBuilt, AreEvaluable, HasScenario, HaveStates, IsTextOf, IsUnbuiltRefusal, first_not_built, reports_on}
 use Rattle.fvm_run.specs.Kept.{IsKept}
 use Rattle.fvm_run.specs.Stops.{IfRefused}
 
@@ -219,20 +220,23 @@ all_built blocks rules tipsets pairs have none are =
 
 -- ---- reports
 
--- one report more
-pub reports_more : (blocks : List BlockParts) (rules : Rules) (pairs : List (Tipset × State)) (i : ℕ) (t : Tipset) (s : State) (so_far new : List Report) (report : Report) → take (i + 1) pairs ≡ take i pairs ++ (t, s) ∷ [] → so_far ≡ reports_on blocks rules (take i pairs) → report ≡ alone blocks rules s t → new ≡ so_far ++ report ∷ [] → new ≡ reports_on blocks rules (take (i + 1) pairs)
-reports_more blocks rules pairs i t s so_far new report front before is put =
-    put ∙ ((λ j. before j ++ is j ∷ []) ∙ (sym (map-append (λ p. alone blocks rules p.1 p.0) (take i pairs) ((t, s) ∷ [])) ∙ ap (reports_on blocks rules) (sym front)))
+-- the text of one report more
+pub text_more : (blocks : List BlockParts) (rules : Rules) (tipsets : List Tipset) (pairs : List (Tipset × State)) (i : ℕ) (t : Tipset) (s : State) (so_far new : List ℕ) (report : Report)
+    → HaveStates blocks rules tipsets pairs → i < length tipsets → take (i + 1) pairs ≡ take i pairs ++ (t, s) ∷ [] → so_far ≡ reports_text (reports_on blocks rules (take i pairs))
+    → report ≡ alone blocks rules s t → new ≡ so_far ++ tipset_text (i, report) → new ≡ reports_text (reports_on blocks rules (take (i + 1) pairs))
+text_more blocks rules tipsets pairs i t s so_far new report have within front before is put =
+    let made : Tipset × State → Report = λ p. alone blocks rules p.1 p.0 in
+    let all : length pairs ≡ length tipsets = sym (length-map pairs (λ (p : Tipset × State). p.0)) ∙ ap length have.listed in
+    let place : length (reports_on blocks rules (take i pairs)) ≡ i = length-map (take i pairs) made ∙ length-take-le i pairs (omega (arith, all, within)) in
+    put
+    ∙ (λ j. before j ++ tipset_text (sym place j, is j))
+    ∙ sym (one_more tipset_text (reports_on blocks rules (take i pairs)) (made (t, s)))
+    ∙ ap reports_text (sym (map-append made (take i pairs) ((t, s) ∷ [])) ∙ ap (reports_on blocks rules) (sym front))
 
 -- the roots in a report have a text
-roots_have_texts : (blocks : List BlockParts) (rules : Rules) (s : State) (t : Tipset) → HasRootTexts (alone blocks rules s t)
+pub roots_have_texts : (blocks : List BlockParts) (rules : Rules) (s : State) (t : Tipset) → HasRootTexts (alone blocks rules s t)
 unfolding alone
 roots_have_texts blocks rules s t = record { receipts = refl; state = refl }
-
-pub reports_have_texts : (blocks : List BlockParts) (scenario : Scenario) (reports : List Report) → AreReportsOn blocks scenario reports → All HasRootTexts reports
-reports_have_texts blocks scenario reports (pairs, have, built, are) =
-    subst (λ rs. All HasRootTexts rs) (sym are)
-    (All-map HasRootTexts (λ p. alone blocks scenario.rules p.1 p.0) pairs (λ k d within. roots_have_texts blocks scenario.rules (get_or pairs k d).1 (get_or pairs k d).0))
 
 -- ---- what is said of a scenario
 
@@ -251,11 +255,11 @@ each_is_built blocks root scenario is ranges none =
     let found = states_exist blocks scenario.rules scenario.tipsets are in
     all_built blocks scenario.rules scenario.tipsets found.0 found.1 (sym (none found.0 found.1)) are
 
--- and the reports are those on the scenario
-pub reported : (blocks : List BlockParts) (root : CidParts) (scenario : Scenario) (reports : List Report) → IsScenario blocks root scenario → HasRanges scenario →
+-- and the text is that of the reports on the scenario
+pub told : (blocks : List BlockParts) (root : CidParts) (scenario : Scenario) (text : List ℕ) → IsScenario blocks root scenario → HasRanges scenario →
     ((pairs : List (Tipset × State)) → HaveStates blocks scenario.rules scenario.tipsets pairs → None ≡ first_not_built 0 pairs) →
-    ((pairs : List (Tipset × State)) → HaveStates blocks scenario.rules scenario.tipsets pairs → reports ≡ reports_on blocks scenario.rules pairs) → AreReportsOn blocks scenario reports
-reported blocks root scenario reports is ranges none are =
+    ((pairs : List (Tipset × State)) → HaveStates blocks scenario.rules scenario.tipsets pairs → text ≡ reports_text (reports_on blocks scenario.rules pairs)) → IsTextOf blocks scenario text
+told blocks root scenario text is ranges none are =
     let found = states_exist blocks scenario.rules scenario.tipsets (evaluable blocks root scenario is ranges) in
     (found.0, found.1, sym (none found.0 found.1), are found.0 found.1)
 

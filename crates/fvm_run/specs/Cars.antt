@@ -78,12 +78,6 @@ abbrev pub AreBuilt : List BlockParts → Rules → List Tipset → Type 0
 AreBuilt blocks rules tipsets =
     All (λ t. (s : State) × IsEvaluable blocks rules t s × (is_built s t ≡ true)) tipsets
 
--- the reports on a scenario, of which each tipset is evaluated
-abbrev pub AreReportsOn : List BlockParts → Scenario → List Report → Type 0
-AreReportsOn blocks scenario reports =
-    (pairs : List (Tipset × State)) × HaveStates blocks scenario.rules scenario.tipsets pairs
-    × (first_not_built 0 pairs ≡ None) × (reports ≡ reports_on blocks scenario.rules pairs)
-
 -- the refusal of a scenario, of which a tipset is not evaluated
 abbrev pub IsUnbuiltRefusal : List BlockParts → Scenario → Refusal → Type 0
 IsUnbuiltRefusal blocks scenario refusal = (n : ℕ) × (refusal ≡ NotBuilt n) × IsNotBuilt blocks scenario n

@@ -1,21 +1,18 @@
 ghost use Rattle.std.specs.Prelude.{◌≡◌, ◌≤◌, ◌<◌, ◌^◌, All, IfOk, IfErr, vec_len};
 ghost use Rattle.car_file.specs.Car.{IsCar, car as spelled_car};
 ghost use Rattle.car_file.specs.CarFault.{IsCarFault};
-ghost use Rattle.fil_base.specs.CidParts.{CidParts};
 ghost use Rattle.fil_base.specs.Failure.{IfFault};
 ghost use Rattle.fil_message.specs.Tipsets.{IsRules, IsTipset};
-ghost use Rattle.scenario_form.specs.Answer.{IsScenario};
 ghost use Rattle.fvm_run.specs.Answers.{IsRunAnswer, BeginsAsList};
-ghost use Rattle.fvm_run.specs.Cars.{HasScenario, IsLoaded, IsTextOf, IsUnbuiltRefusal};
+ghost use Rattle.fvm_run.specs.Cars.{HasScenario, IsLoaded};
 ghost use Rattle.fvm_run.specs.Stops.{IfRefused};
 
 use crate::input::INPUT_LIMIT;
 use crate::stop::Stop;
-use crate::tipsets::reports_of;
+use crate::tipsets::text_of_scenario;
 use block_base::Base;
 use car_file::{Car, CarFault, CarReader};
 use fil_base::{Bytes, Cid, Failure};
-use report_text::text;
 use scenario_form::{Scenario, read_scenario};
 use std::alloc::Global;
 
@@ -27,20 +24,7 @@ pub fn text_of_car(alloc: Global, input: Vec<u8>) -> Result<Bytes, Stop>
     ensures refused { IfErr result (IfRefused (λ refusal. IsRunAnswer input.items (Err refusal))) }
 {
     let (base, scenario) = scenario_of(alloc, input)?;
-    text_of_scenario(alloc, base, scenario)
-}
-
-/// The text of the reports on a scenario. The blocks and the scenario are let go before it is made.
-fn text_of_scenario(alloc: Global, base: Base, scenario: Scenario) -> Result<Bytes, Stop>
-    requires scenario { (root : CidParts) × IsScenario base root scenario }
-    requires ranges { IsRules scenario.rules × All IsTipset scenario.tipsets }
-    ensures text { IfOk result (IsTextOf base scenario) }
-    ensures refused { IfErr result (IfRefused (IsUnbuiltRefusal base scenario)) }
-{
-    let reports = reports_of(alloc, &base, &scenario)?;
-    drop(scenario);
-    drop(base);
-    Ok(text(alloc, &reports)?)
+    text_of_scenario(alloc, &base, &scenario)
 }
 
 /// The loaded blocks, and the scenario under the root. The input is let go before the scenario is read.

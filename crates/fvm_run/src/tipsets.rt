@@ -1,13 +1,13 @@
-ghost use Rattle.std.specs.Prelude.{◌≡◌, ◌≤◌, ℕ, All, List, IfOk, IfErr, IfSome, length, true};
+ghost use Rattle.std.specs.Prelude.{◌≡◌, ◌≤◌, All, List, IfOk, IfErr, IfSome, length, true};
 ghost use Rattle.fil_base.specs.CidParts.{CidParts};
 ghost use Rattle.fil_message.specs.Tipsets.{IsRules, IsTipset};
 ghost use Rattle.fil_message.specs.declared.tipset.Tipset.{Tipset as Tip};
+ghost use Rattle.report_text.specs.Text.{HasRootTexts, reports_text};
 ghost use Rattle.scenario_form.specs.Answer.{IsScenario};
 ghost use Rattle.state_model.specs.State.{State};
 ghost use Rattle.state_model.specs.StateAt.{state_at};
 ghost use Rattle.tipset_exec.specs.Alone.{IsEvaluable, alone, is_built as is_built_over};
-ghost use Rattle.tipset_exec.specs.Opens.{Opens};
-ghost use Rattle.fvm_run.specs.Cars.{AreBuilt, AreReportsOn, HaveStates, IsUnbuiltRefusal, first_not_built as first_among, reports_on};
+ghost use Rattle.fvm_run.specs.Cars.{AreBuilt, HaveStates, IsTextOf, IsUnbuiltRefusal, first_not_built as first_among, reports_on};
 ghost use Rattle.fvm_run.specs.Kept.{IsKept};
 ghost use Rattle.fvm_run.specs.Stops.{IfRefused};
 
@@ -15,19 +15,20 @@ use crate::kept_state::KeptState;
 use crate::refusal::Refusal;
 use crate::stop::Stop;
 use block_base::Base;
-use fil_base::{Mem, Row};
+use fil_base::{Bytes, Mem};
 use fil_message::{Report, Tipset};
 use gas_prices::Rules;
+use report_text::put_report;
 use scenario_form::Scenario;
 use std::alloc::Global;
 use tipset_exec::{built_over_any_state, evaluate_from, is_built_from};
 
-/// The reports on the tipsets of a scenario, each alone over the loaded blocks. All of them are judged before the first
-/// one is evaluated.
-pub fn reports_of(alloc: Global, base: &Base, scenario: &Scenario) -> Result<Row<Report>, Stop>
+/// The text of the reports on the tipsets of a scenario, each alone over the loaded blocks. All of them are judged before
+/// the first one is evaluated.
+pub fn text_of_scenario(alloc: Global, base: &Base, scenario: &Scenario) -> Result<Bytes, Stop>
     requires scenario { (root : CidParts) × IsScenario base.now root scenario.now }
     requires ranges { IsRules scenario.now.rules × All IsTipset scenario.now.tipsets }
-    ensures reports { IfOk result (AreReportsOn base.now scenario.now) }
+    ensures text { IfOk result (IsTextOf base.now scenario.now) }
     ensures refused { IfErr result (IfRefused (IsUnbuiltRefusal base.now scenario.now)) }
 {
     let Scenario { rules, tipsets } = scenario;
@@ -35,7 +36,7 @@ pub fn reports_of(alloc: Global, base: &Base, scenario: &Scenario) -> Result<Row
     if let Some(place) = first_not_built(alloc, base, rules, tipsets)? {
         return Err(Stop::Refused(Refusal::NotBuilt(place)));
     }
-    Ok(evaluate_all(alloc, base, rules, tipsets)?)
+    Ok(text_of_all(alloc, base, rules, tipsets)?)
 }
 
 /// The place of the first tipset that is not evaluated, if there is one.
@@ -82,20 +83,22 @@ fn judge(
     Ok((built, Some(state)))
 }
 
-/// The report on each tipset. A state that tipsets one after another share is loaded once.
-fn evaluate_all(alloc: Global, base: &Base, rules: &Rules, tipsets: &[Tipset]) -> Mem<Row<Report>>
+/// The text of the report on each tipset. A state that tipsets one after another share is loaded once, and a report is let
+/// go when its text is there.
+fn text_of_all(alloc: Global, base: &Base, rules: &Rules, tipsets: &[Tipset]) -> Mem<Bytes>
     requires { AreBuilt base.now rules.now tipsets.now }
     ensures { (pairs : List (Tip × State)) → HaveStates base.now rules.now tipsets.now pairs
-        → IfOk result (λ reports. reports ≡ reports_on base.now rules.now pairs) }
+        → IfOk result (λ text. text ≡ reports_text (reports_on base.now rules.now pairs)) }
 {
-    let mut reports = Vec::with_capacity(alloc, tipsets.len())?;
+    let mut text = Vec::new(alloc);
     let mut kept = None;
-    for tipset in tipsets {
+    for (place, tipset) in tipsets.iter().enumerate() {
         let state = KeptState::under(alloc, base, &rules.codes, &tipset.root, kept)?;
-        reports.push(evaluate(alloc, base, rules, tipset, &state)?)?;
+        let report = evaluate(alloc, base, rules, tipset, &state)?;
+        put_report(alloc, &mut text, place, &report)?;
         kept = Some(state);
     }
-    Ok(Row::of(reports))
+    Ok(Bytes::of(text))
 }
 
 /// The report on a tipset over the state that is kept, which is the one under its root. The blocks that it made are let
@@ -110,8 +113,9 @@ fn evaluate(
     requires built { (s : State) × IsEvaluable base.now rules.now tipset.now s × (is_built_over s tipset.now ≡ true) }
     requires root { state.now.root ≡ tipset.now.root }
     requires kept { IsKept base.now rules.now.codes state.now }
-    ensures { (s : State) → state_at base.now tipset.now.root rules.now.codes ≡ Ok s
+    ensures report { (s : State) → state_at base.now tipset.now.root rules.now.codes ≡ Ok s
         → IfOk result (λ report. report ≡ alone base.now rules.now s tipset.now) }
+    ensures texts { IfOk result HasRootTexts }
 {
     let (report, blocks) = evaluate_from(alloc, base, rules, tipset, state.opening())?;
     drop(blocks);

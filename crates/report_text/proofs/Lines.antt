@@ -9,13 +9,18 @@ enumerate_push n (y ∷ xs) x =
     let next : (n + 1) + length xs ≡ n + length (y ∷ xs) = omega arith in
     ap (λ rest. (n, y) ∷ rest) (enumerate_push (n + 1) xs x ∙ ap (λ k. enumerate_from (n + 1) xs ++ (k, x) ∷ []) next)
 
--- the parts of one more thing
+-- the parts of one thing more
+pub one_more : {A : Type 0} (part : ℕ × A → List ℕ) (xs : List A) (x : A) → flat_map part (enumerate_from 0 (xs ++ x ∷ [])) ≡ flat_map part (enumerate_from 0 xs) ++ part (length xs, x)
+one_more part xs x =
+    let place : 0 + length xs ≡ length xs = omega arith in
+    ap (flat_map part) (enumerate_push 0 xs x ∙ ap (λ k. enumerate_from 0 xs ++ (k, x) ∷ []) place) ∙ sym (flat_map_more part [] (enumerate_from 0 xs) (length xs, x))
+
+-- the parts of the things up to this one
 parts_more : {A : Type 0} (part : ℕ × A → List ℕ) (xs : List A) (i : ℕ) (d : A) → i < length xs → flat_map part (enumerate_from 0 (take (i + 1) xs)) ≡ flat_map part (enumerate_from 0 (take i xs)) ++ part (i, get_or xs i d)
 parts_more part xs i d within =
-    let place : 0 + length (take i xs) ≡ i = omega (arith, length-take i xs) in
-    let more : enumerate_from 0 (take (i + 1) xs) ≡ enumerate_from 0 (take i xs) ++ (i, get_or xs i d) ∷ [] =
-    ap (enumerate_from 0) (take_more xs i d within) ∙ (enumerate_push 0 (take i xs) (get_or xs i d) ∙ ap (λ k. enumerate_from 0 (take i xs) ++ (k, get_or xs i d) ∷ []) place) in
-    ap (flat_map part) more ∙ sym (flat_map_more part [] (enumerate_from 0 (take i xs)) (i, get_or xs i d))
+    let place : length (take i xs) ≡ i = omega (arith, length-take i xs) in
+    ap (λ ys. flat_map part (enumerate_from 0 ys)) (take_more xs i d within)
+    ∙ (one_more part (take i xs) (get_or xs i d) ∙ ap (λ k. flat_map part (enumerate_from 0 (take i xs)) ++ part (k, get_or xs i d)) place)
 
 -- a loop's step: the part of the thing at i is put to the text
 pub part_put : {A : Type 0} (part : ℕ × A → List ℕ) (old text new : List ℕ) (xs : List A) (i : ℕ) (x : A) → i < length xs → x ≡ get_or xs i x → text ≡ old ++ flat_map part (enumerate_from 0 (take i xs)) → new ≡ text ++ part (i, x) → new ≡ old ++ flat_map part (enumerate_from 0 (take (i + 1) xs))

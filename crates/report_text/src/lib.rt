@@ -10,7 +10,7 @@ mod pieces;
 mod reports;
 
 pub use account_list::form0_text;
-pub use reports::text;
+pub use reports::{put_report, text};
 
 #[cfg(test)]
 mod tests;

@@ -29,9 +29,9 @@ fn put_reports(alloc: Global, text: &mut Vec<u8>, reports: &[Report]) -> Mem<()>
     Ok(())
 }
 
-/// Puts the report on a tipset behind a text.
+/// Puts the text of the report on the tipset of this place, counted from 0, behind a text.
 #[tactic(auto, unfolding(crate::specs::Text::tipset_text))]
-fn put_report(alloc: Global, text: &mut Vec<u8>, place: usize, report: &Report) -> Mem<()>
+pub fn put_report(alloc: Global, text: &mut Vec<u8>, place: usize, report: &Report) -> Mem<()>
     requires { HasRootTexts report.now }
     ensures { OnOk result (text.new.items ≡ text.old.items ++ tipset_text (place, report.now)) }
 {
