@@ -45,8 +45,8 @@ pub fn link_bytes_of(left: u64, bytes: &[u8]) -> Result<(&[u8], &[u8]), Flaw>
 fn cid_in(alloc: Global, bytes: &[u8]) -> Mem<Option<Cid>>
     ensures { IfOk result (λ cid. cid ≡ linked bytes.now) }
 {
-    if let Some(digest) = usual_digest(bytes) {
-        return usual_cid(alloc, digest);
+    if let Some((codec, digest)) = usual_digest(bytes) {
+        return usual_cid(alloc, codec, digest);
     }
     match bytes.split_first() {
         Some((0, rest)) => whole_cid(alloc, rest),

@@ -70,7 +70,7 @@ pub fn put_link(out: &mut Vec<u8>, cid: &Cid) -> Mem<()>
     ensures { IfOk result (λ _. out.new.items ≡ out.old.items ++ spelled_layer (layer.Link cid.now)) }
 {
     if is_usual(cid) {
-        put_usual_link(out, cid.digest())
+        put_usual_link(out, cid.codec() as u8, cid.digest())
     } else {
         put_any_link(out, cid)
     }
