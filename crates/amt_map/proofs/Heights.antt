@@ -97,7 +97,7 @@ below_spelled : (k : ℕ) (ps : Pairs) → below_all nat_cmp k (spellings ps) �
 below_spelled k [] = refl
 below_spelled k (p ∷ ps) = ap (λ t. is_lt (nat_cmp k p.0) && t) (below_spelled k ps)
 
-sorted_spelled : (ps : Pairs) → is_sorted nat_cmp (spellings ps) ≡ is_sorted nat_cmp ps
+pub sorted_spelled : (ps : Pairs) → is_sorted nat_cmp (spellings ps) ≡ is_sorted nat_cmp ps
 sorted_spelled [] = refl
 sorted_spelled (p ∷ ps) = λ i. below_spelled p.0 ps i && sorted_spelled ps i
 

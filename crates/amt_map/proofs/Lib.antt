@@ -5,6 +5,7 @@ pub mod NodePlaces
 pub mod Grouping
 pub mod SlotSteps
 pub mod Heights
+mod PutAgain
 pub mod NodeTexts
 pub mod Writing
 mod Within

@@ -92,9 +92,7 @@ impl Amt {
         ensures unchanged { (m : Map) → Stands self.old (B.blocks base.now) m
             → OnErr result (Stands self.new (B.blocks base.now) m) }
     {
-        let old = self.pairs.get(self.alloc, index)?;
-        self.pairs.insert(self.alloc, index, &value)?;
-        Ok(old)
+        self.pairs.insert(self.alloc, index, &value)
     }
 
     /// Puts a value at the index that is the count of the pairs, and answers the old one.

@@ -1,5 +1,8 @@
-ghost use Rattle.std.specs.Prelude.{◌≡◌, ◌<◌, ◌^◌, IfOk, OnErr, OnOk, length, map};
+ghost use Rattle.std.specs.Prelude.{◌≡◌, ◌<◌, ◌^◌, IfOk, IfSome, IsSome, OnErr, OnOk, length, map};
 ghost use Rattle.std.specs.FinMap.{empty, entries, get, insert, remove};
+ghost use Rattle.std.specs.FinMap.Entries.{find, put};
+ghost use Rattle.std.specs.Option.{option_map};
+ghost use Rattle.std.specs.Ordering.{nat_cmp};
 ghost use Rattle.dag_cbor.specs.Plain.{IsPlain};
 ghost use Rattle.dag_cbor.specs.Spelling.{spelled};
 ghost use Rattle.amt_map.specs.Holds.{FitRoot, Holds, IsSpelling};
@@ -69,15 +72,25 @@ impl Spelled {
         }
     }
 
-    /// Puts a value at an index.
-    pub(crate) fn insert(&mut self, alloc: Global, index: u64, value: &Value) -> Mem<()>
+    /// Puts a value at an index, and answers the old one.
+    pub(crate) fn insert(&mut self, alloc: Global, index: u64, value: &Value) -> Mem<Option<Value>>
         requires index { index < 2 ^ 60 }
         requires plain { IsPlain 125 value.now }
+        ensures old { (m : Map) → Holds self.old m → IfOk result (λ old. old ≡ get m index) }
         ensures after { (m : Map) → Holds self.old m → OnOk result (Holds self.new (insert m index value.now)) }
         ensures unchanged { OnErr result (self.new ≡ self.old) }
     {
         let spelling = encode(alloc, value)?;
-        self.insert_spelling(index, spelling.into_vec())
+        let Some(old) = self.put(index, spelling.into_vec())? else {
+            return Ok(None);
+        };
+        match value_of(alloc, old.as_slice()) {
+            Ok(value) => Ok(Some(value)),
+            Err(_) => {
+                self.put_back(index, old);
+                Err(NoMemory)
+            }
+        }
     }
 
     /// Puts a spelling at an index.
@@ -88,8 +101,33 @@ impl Spelled {
             → OnOk result (Holds self.new (insert m index value)) }
         ensures unchanged { OnErr result (self.new ≡ self.old) }
     {
-        self.inner.insert(index, spelling)?;
+        self.put(index, spelling)?;
         Ok(())
+    }
+
+    /// Puts a spelling at an index, and answers the old one.
+    fn put(&mut self, index: u64, spelling: Vec<u8>) -> Mem<Option<Vec<u8>>>
+        requires index { index < 2 ^ 60 }
+        requires spelling { IsSpelling spelling.items }
+        ensures held { IfOk result (λ old. (m : Map) × Holds self.old m) }
+        ensures old { IfOk result (λ old. option_map (λ s. s.items) old ≡ find nat_cmp index self.old) }
+        ensures spelling { IfOk result (λ old. IfSome old (λ s. IsSpelling s.items)) }
+        ensures after { OnOk result (self.new ≡ put nat_cmp index spelling.items self.old) }
+        ensures unchanged { OnErr result (self.new ≡ self.old) }
+    {
+        let old = self.inner.insert(index, spelling)?;
+        Ok(old)
+    }
+
+    /// Puts the spelling that it had at an index.
+    fn put_back(&mut self, index: u64, spelling: Vec<u8>)
+        requires index { index < 2 ^ 60 }
+        requires spelling { IsSpelling spelling.items }
+        ensures { IsSome (find nat_cmp index self.old) → self.new ≡ put nat_cmp index spelling.items self.old }
+    {
+        if let Some(place) = self.inner.get_mut(&index) {
+            *place = spelling;
+        }
     }
 
     /// Takes the value at an index away.
