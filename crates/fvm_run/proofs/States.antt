@@ -1,11 +1,14 @@
 -- The tipsets of a scenario with the states under their roots.
-use Rattle.std.proofs.Common.{◌≡◌, ℕ, ◌+◌, ◌<◌, ◌≤◌, suc, Bool, true, false, cond, ltb, not, List, [], ◌∷◌, ◌++◌, length, map, get_or, take, drop, Option, None, Some, Result, Ok, Err, IfOk, IfErr, refl, sym, ap, subst, ◌∙◌, ◌⊎◌, inl, inr, add-one, drop-cons, arith}
+use Rattle.std.proofs.Common.{◌≡◌, ℕ, ◌+◌, ◌<◌, ◌≤◌, suc, Bool, true, false, cond, ltb, not, List, [], ◌∷◌, ◌++◌, length, map, get_or, take, drop, Option, None, Some, Result, Ok, Err, IfOk, IfErr, IsErrAnd, refl, sym, ap, subst, ◌∙◌, ◌⊎◌, inl, inr, add-one, drop-cons, arith}
 use Rattle.std.specs.List.{All, AllByRecursion}
 use Rattle.std.proofs.lemmas.Bool.{ltb-false}
-use Rattle.std.proofs.lemmas.List.{drop_all, get_or-map, length-map, length-take-le, map-append, take_more}
+use Rattle.std.proofs.lemmas.List.{drop_all, get_or-map, length-map, length-take-le, map-append, take_all, take_more}
 use Rattle.std.proofs.lemmas.List.Elements.{All-cons, All-from_recursion, All-nil, recursion_from_All}
 use Rattle.cid_core.specs.BlockParts.{BlockParts}
 use Rattle.fil_base.specs.CidParts.{CidParts}
+use Rattle.fil_base.specs.Failure.{IfFault}
+use Rattle.fil_base.specs.declared.failure.Failure.{Failure}
+use Rattle.fil_base.specs.declared.failure.Failure.TheVariants as failures
 use Rattle.fil_message.specs.Tipsets.{IsRules, IsTipset, awards}
 use Rattle.fil_message.specs.declared.tipset.Report.{Report}
 use Rattle.fil_message.specs.declared.tipset.Tipset.{Tipset}
@@ -13,7 +16,7 @@ use Rattle.gas_prices.specs.declared.rules.Codes.{Codes}
 use Rattle.gas_prices.specs.declared.rules.Rules.{Rules}
 use Rattle.report_text.specs.Text.{HasRootTexts, reports_text, tipset_text}
 use Rattle.report_text.proofs.Lines.{one_more}
-use Rattle.scenario_form.specs.Answer.{IsScenario}
+use Rattle.scenario_form.specs.Answer.{IsScenario, IsScenarioFault}
 use Rattle.scenario_form.specs.Judging.{tipset_judged, tipsets_judged}
 use Rattle.scenario_form.specs.declared.fault.ScenarioFault.{ScenarioFault}
 use Rattle.scenario_form.specs.declared.scenario.Scenario.{Scenario}
@@ -26,9 +29,9 @@ use Rattle.fvm_run.specs.declared.refusal.Refusal.TheVariants.{NotBuilt}
 use Rattle.fvm_run.specs.declared.stop.Stop.{Stop}
 use Rattle.fvm_run.specs.declared.stop.Stop.TheVariants.{ReadFailed, NoMemory, Refused}
 use Rattle.fvm_run.specs.Answers.{BeginsAsList, IsRunAnswer}
-use Rattle.fvm_run.specs.Cars.{AreBuilt, AreEvaluable, HasScenario, HaveStates, IsTextOf, IsUnbuiltRefusal, first_not_built, reports_on}
+use Rattle.fvm_run.specs.Cars.{AreBuilt, AreEvaluable, HasScenario, HaveStates, IsLoaded, IsTextOf, IsUnbuiltRefusal, first_not_built, reports_on}
 use Rattle.fvm_run.specs.Kept.{IsKept}
-use Rattle.fvm_run.specs.Stops.{IfRefused}
+use Rattle.fvm_run.specs.Stops.{IfRefused, scenario_stop}
 
 -- ---- things with what each is answered
 
@@ -233,6 +236,13 @@ text_more blocks rules tipsets pairs i t s so_far new report have within front b
     ∙ sym (one_more tipset_text (reports_on blocks rules (take i pairs)) (made (t, s)))
     ∙ ap reports_text (sym (map-append made (take i pairs) ((t, s) ∷ [])) ∙ ap (reports_on blocks rules) (sym front))
 
+-- the text of all reports
+pub all_told : (blocks : List BlockParts) (rules : Rules) (tipsets : List Tipset) (pairs : List (Tipset × State)) (i : ℕ) (text : List ℕ) → HaveStates blocks rules tipsets pairs → length tipsets ≤ i
+    → text ≡ reports_text (reports_on blocks rules (take i pairs)) → text ≡ reports_text (reports_on blocks rules pairs)
+all_told blocks rules tipsets pairs i text have over so_far =
+    let past : length pairs ≤ i = omega (arith, over, ap length have.listed, length-map pairs (λ (p : Tipset × State). p.0)) in
+    so_far ∙ ap (λ (ps : List (Tipset × State)). reports_text (reports_on blocks rules ps)) (take_all i pairs past)
+
 -- the roots in a report have a text
 pub roots_have_texts : (blocks : List BlockParts) (rules : Rules) (s : State) (t : Tipset) → HasRootTexts (alone blocks rules s t)
 unfolding alone
@@ -279,3 +289,15 @@ scenario_refused input blocks scenario (Err ReadFailed) other has stops = absurd
 scenario_refused input blocks scenario (Err NoMemory) other has stops = tt
 scenario_refused input blocks scenario (Err (Refused refusal)) other (root, loaded, is) (n, same, first) =
     subst (λ r. IsRunAnswer input (Err r)) (sym same) (other, (root, blocks, loaded, scenario, is, first))
+
+fault_stops : (input : List ℕ) (root : CidParts) (blocks : List BlockParts) (failure : Failure ScenarioFault) → (BeginsAsList input → ⊥) → IsLoaded input root blocks → IfFault failure (IsScenarioFault blocks root)
+    → IfRefused (λ refusal. IsRunAnswer input (Err refusal)) (scenario_stop failure)
+fault_stops input root blocks failures.NoMemory other loaded is = tt
+fault_stops input root blocks (failures.Fault fault) other loaded is = (other, (root, blocks, loaded, is))
+
+-- a fault of the scenario is the answer
+pub scenario_stops : {T : Type 0} (input : List ℕ) (root : CidParts) (blocks : List BlockParts) (failure : Failure ScenarioFault) (text : Result T Stop) → (BeginsAsList input → ⊥) → IsLoaded input root blocks
+    → IfFault failure (IsScenarioFault blocks root) → IsErrAnd text (λ stop. stop ≡ scenario_stop failure) → IfErr text (IfRefused (λ refusal. IsRunAnswer input (Err refusal)))
+scenario_stops input root blocks failure (Ok t) other loaded is same = tt
+scenario_stops input root blocks failure (Err stop) other loaded is same =
+    subst (IfRefused (λ refusal. IsRunAnswer input (Err refusal))) (sym same) (fault_stops input root blocks failure other loaded is)

@@ -1,10 +1,9 @@
-ghost use Rattle.std.specs.Prelude.{◌≡◌, ◌≤◌, ◌<◌, ◌^◌, All, IfOk, IfErr, vec_len};
+ghost use Rattle.std.specs.Prelude.{◌≡◌, ◌≤◌, ◌<◌, ◌^◌, IfOk, IfErr, vec_len};
 ghost use Rattle.car_file.specs.Car.{IsCar, car as spelled_car};
 ghost use Rattle.car_file.specs.CarFault.{IsCarFault};
 ghost use Rattle.fil_base.specs.Failure.{IfFault};
-ghost use Rattle.fil_message.specs.Tipsets.{IsRules, IsTipset};
 ghost use Rattle.fvm_run.specs.Answers.{IsRunAnswer, BeginsAsList};
-ghost use Rattle.fvm_run.specs.Cars.{HasScenario, IsLoaded};
+ghost use Rattle.fvm_run.specs.Cars.{IsLoaded};
 ghost use Rattle.fvm_run.specs.Stops.{IfRefused};
 
 use crate::input::INPUT_LIMIT;
@@ -13,31 +12,20 @@ use crate::tipsets::text_of_scenario;
 use block_base::Base;
 use car_file::{Car, CarFault, CarReader};
 use fil_base::{Bytes, Cid, Failure};
-use scenario_form::{Scenario, read_scenario};
+use scenario_form::judge_scenario;
 use std::alloc::Global;
 
-/// The text of the reports on the scenario of the CAR file that the input is.
+/// The text of the reports on the scenario of the CAR file that the input is. The input is let go before the scenario is
+/// read.
 pub fn text_of_car(alloc: Global, input: Vec<u8>) -> Result<Bytes, Stop>
     requires limit { vec_len input ≤ INPUT_LIMIT }
     requires other { BeginsAsList input.items → ⊥ }
     ensures text { IfOk result (λ text. IsRunAnswer input.items (Ok text)) }
     ensures refused { IfErr result (IfRefused (λ refusal. IsRunAnswer input.items (Err refusal))) }
 {
-    let (base, scenario) = scenario_of(alloc, input)?;
-    text_of_scenario(alloc, &base, &scenario)
-}
-
-/// The loaded blocks, and the scenario under the root. The input is let go before the scenario is read.
-fn scenario_of(alloc: Global, input: Vec<u8>) -> Result<(Base, Scenario), Stop>
-    requires limit { vec_len input ≤ INPUT_LIMIT }
-    requires other { BeginsAsList input.items → ⊥ }
-    ensures scenario { IfOk result (λ found. HasScenario input.items found.0 found.1) }
-    ensures ranges { IfOk result (λ found. IsRules found.1.rules × All IsTipset found.1.tipsets) }
-    ensures refused { IfErr result (IfRefused (λ refusal. IsRunAnswer input.items (Err refusal))) }
-{
     let (root, base) = loaded(alloc, input)?;
-    let scenario = read_scenario(alloc, &root, &base)?;
-    Ok((base, scenario))
+    let scenario = judge_scenario(alloc, &root, &base)?;
+    text_of_scenario(alloc, &base, &scenario)
 }
 
 /// The root of the CAR file, and its blocks as they are found by their CID.

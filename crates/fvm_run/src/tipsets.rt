@@ -1,9 +1,8 @@
-ghost use Rattle.std.specs.Prelude.{◌≡◌, ◌≤◌, All, List, IfOk, IfErr, IfSome, length, true};
+ghost use Rattle.std.specs.Prelude.{◌≡◌, ◌≤◌, List, IfOk, IfErr, IfSome, length, true};
 ghost use Rattle.fil_base.specs.CidParts.{CidParts};
-ghost use Rattle.fil_message.specs.Tipsets.{IsRules, IsTipset};
 ghost use Rattle.fil_message.specs.declared.tipset.Tipset.{Tipset as Tip};
 ghost use Rattle.report_text.specs.Text.{HasRootTexts, reports_text};
-ghost use Rattle.scenario_form.specs.Answer.{IsScenario};
+ghost use Rattle.scenario_form.specs.Judged.{IsJudged, Spells, scenario_with};
 ghost use Rattle.state_model.specs.State.{State};
 ghost use Rattle.state_model.specs.StateAt.{state_at};
 ghost use Rattle.tipset_exec.specs.Alone.{IsEvaluable, alone, is_built as is_built_over};
@@ -19,40 +18,39 @@ use fil_base::{Bytes, Mem};
 use fil_message::{Report, Tipset};
 use gas_prices::Rules;
 use report_text::put_report;
-use scenario_form::Scenario;
+use scenario_form::SpelledScenario;
 use std::alloc::Global;
 use tipset_exec::{built_over_any_state, evaluate_from, is_built_from};
 
 /// The text of the reports on the tipsets of a scenario, each alone over the loaded blocks. All of them are judged before
-/// the first one is evaluated.
-pub fn text_of_scenario(alloc: Global, base: &Base, scenario: &Scenario) -> Result<Bytes, Stop>
-    requires scenario { (root : CidParts) × IsScenario base.now root scenario.now }
-    requires ranges { IsRules scenario.now.rules × All IsTipset scenario.now.tipsets }
-    ensures text { IfOk result (IsTextOf base.now scenario.now) }
-    ensures refused { IfErr result (IfRefused (IsUnbuiltRefusal base.now scenario.now)) }
+/// the first one is evaluated, and each is read again from its bytes when it is.
+pub fn text_of_scenario(
+    alloc: Global,
+    base: &Base,
+    scenario: &SpelledScenario<'_>,
+) -> Result<Bytes, Stop>
+    requires { (root : CidParts) × (tipsets : List Tip) × IsJudged base.now root scenario.now tipsets }
+    ensures text { (root : CidParts) (tipsets : List Tip) → IsJudged base.now root scenario.now tipsets →
+        IfOk result (IsTextOf base.now (scenario_with scenario.now tipsets)) }
+    ensures refused { (root : CidParts) (tipsets : List Tip) → IsJudged base.now root scenario.now tipsets →
+        IfErr result (IfRefused (IsUnbuiltRefusal base.now (scenario_with scenario.now tipsets))) }
 {
-    let Scenario { rules, tipsets } = scenario;
-    let tipsets = tipsets.as_slice();
-    if let Some(place) = first_not_built(alloc, base, rules, tipsets)? {
+    if let Some(place) = first_not_built(alloc, base, scenario)? {
         return Err(Stop::Refused(Refusal::NotBuilt(place)));
     }
-    Ok(text_of_all(alloc, base, rules, tipsets)?)
+    Ok(text_of_all(alloc, base, scenario)?)
 }
 
 /// The place of the first tipset that is not evaluated, if there is one.
-fn first_not_built(
-    alloc: Global,
-    base: &Base,
-    rules: &Rules,
-    tipsets: &[Tipset],
-) -> Mem<Option<u32>>
-    requires { length tipsets.now ≤ 1024 }
-    ensures { (pairs : List (Tip × State)) → HaveStates base.now rules.now tipsets.now pairs
-        → IfOk result (λ place. place ≡ first_among 0 pairs) }
+fn first_not_built(alloc: Global, base: &Base, scenario: &SpelledScenario<'_>) -> Mem<Option<u32>>
+    requires { (tipsets : List Tip) × Spells scenario.now tipsets × (length tipsets ≤ 1024) }
+    ensures { (tipsets : List Tip) (pairs : List (Tip × State)) → Spells scenario.now tipsets →
+        HaveStates base.now scenario.now.rules tipsets pairs → IfOk result (λ place. place ≡ first_among 0 pairs) }
 {
     let mut kept = None;
-    for (place, tipset) in tipsets.iter().enumerate() {
-        let (built, state) = judge(alloc, base, rules, tipset, kept)?;
+    for place in 0..scenario.len() {
+        let tipset = scenario.tipset(alloc, place)?;
+        let (built, state) = judge(alloc, base, &scenario.rules, &tipset, kept)?;
         if !built {
             return Ok(Some(place as u32));
         }
@@ -83,18 +81,20 @@ fn judge(
     Ok((built, Some(state)))
 }
 
-/// The text of the report on each tipset. A state that tipsets one after another share is loaded once, and a report is let
-/// go when its text is there.
-fn text_of_all(alloc: Global, base: &Base, rules: &Rules, tipsets: &[Tipset]) -> Mem<Bytes>
-    requires { AreBuilt base.now rules.now tipsets.now }
-    ensures { (pairs : List (Tip × State)) → HaveStates base.now rules.now tipsets.now pairs
-        → IfOk result (λ text. text ≡ reports_text (reports_on base.now rules.now pairs)) }
+/// The text of the report on each tipset. A state that tipsets one after another share is loaded once, and a tipset and its
+/// report are let go when its text is there.
+fn text_of_all(alloc: Global, base: &Base, scenario: &SpelledScenario<'_>) -> Mem<Bytes>
+    requires { (tipsets : List Tip) × Spells scenario.now tipsets × AreBuilt base.now scenario.now.rules tipsets }
+    ensures { (tipsets : List Tip) (pairs : List (Tip × State)) → Spells scenario.now tipsets →
+        HaveStates base.now scenario.now.rules tipsets pairs →
+        IfOk result (λ text. text ≡ reports_text (reports_on base.now scenario.now.rules pairs)) }
 {
     let mut text = Vec::new(alloc);
     let mut kept = None;
-    for (place, tipset) in tipsets.iter().enumerate() {
-        let state = KeptState::under(alloc, base, &rules.codes, &tipset.root, kept)?;
-        let report = evaluate(alloc, base, rules, tipset, &state)?;
+    for place in 0..scenario.len() {
+        let tipset = scenario.tipset(alloc, place)?;
+        let state = KeptState::under(alloc, base, &scenario.rules.codes, &tipset.root, kept)?;
+        let report = evaluate(alloc, base, &scenario.rules, &tipset, &state)?;
         put_report(alloc, &mut text, place, &report)?;
         kept = Some(state);
     }

@@ -1,29 +1,27 @@
 -- What is answered in the end.
-use Rattle.std.proofs.Common.{◌≡◌, ◌≤◌, List, length, Some, None, subst, sym, ap, ◌∙◌}
+use Rattle.std.proofs.Common.{◌≡◌, List, Some, None, refl, subst, sym, ap, ◌∙◌}
 use Rattle.std.specs.Prelude.{All}
-use Rattle.std.proofs.lemmas.List.Elements.{All-same, All-weaker}
 use Rattle.fil_base.specs.CidParts.{CidParts}
 use Rattle.cid_core.specs.BlockParts.{BlockParts}
 use Rattle.fil_message.specs.Tipsets.{IsRules, IsTipset}
 use Rattle.fil_message.specs.declared.tipset.Tipset.{Tipset}
 use Rattle.scenario_form.specs.Answer.{HasCodes, IsScenario, IsScenarioFault, scenario_of}
+use Rattle.scenario_form.specs.Judged.{IsJudged, Spells, scenario_with, spelled_of}
 use Rattle.scenario_form.specs.Judging.{tipsets_judged}
+use Rattle.scenario_form.specs.Outlines.{IsOutline, raw_scenario}
 use Rattle.scenario_form.specs.Parts.{IsRaw}
 use Rattle.scenario_form.specs.declared.fault.ScenarioFault.{ScenarioFault}
 use Rattle.scenario_form.specs.declared.fault.ScenarioFault.TheVariants.{Root, Cbor, Form, Price, Limit, Codes, State, Next, Total}
+use Rattle.scenario_form.specs.declared.outline.Outline.{Outline}
 use Rattle.scenario_form.specs.declared.raw.RawScenario.{RawScenario}
 use Rattle.scenario_form.specs.declared.scenario.Scenario.{Scenario}
+use Rattle.scenario_form.specs.declared.spelled_scenario.SpelledScenario.{SpelledScenario}
 use Rattle.scenario_form.proofs.Runs.{IsOfTipset, kind_of}
 use Rattle.scenario_form.proofs.WithinLimits.{IsWithin, limits_hold}
 
 -- a judged scenario is within its limits
 pub codes_within : (blocks : List BlockParts) (root : CidParts) (s : RawScenario) → IsRaw s → HasCodes blocks root s → IsWithin s
 codes_within blocks root s raw (((parts, prices), none), differ) = limits_hold s raw none
-
--- its tipsets have few blocks
-pub blocks_few : (slice tipsets : List Tipset) → slice ≡ tipsets → All IsTipset tipsets → All (λ t. length t.blocks ≤ 256) slice
-blocks_few slice tipsets same all =
-    All-same (λ t. length t.blocks ≤ 256) slice tipsets same (All-weaker IsTipset (λ t. length t.blocks ≤ 256) (λ t is. is.count) tipsets all)
 
 rules_hold : (blocks : List BlockParts) (root : CidParts) (s : RawScenario) → IsRaw s → HasCodes blocks root s → IsRules (scenario_of s).rules × All IsTipset (scenario_of s).tipsets
 rules_hold blocks root s raw (((parts, prices), none), differ) =
@@ -54,3 +52,16 @@ pub tipset_refused : (blocks : List BlockParts) (root : CidParts) (s : RawScenar
 tipset_refused blocks root s tipsets fault codes same judged =
     let own : tipsets_judged blocks s.rules.codes 0 s.tipsets ≡ Some fault = ap (tipsets_judged blocks s.rules.codes 0) (sym same) ∙ judged in
     of_kind blocks root s fault (kind_of blocks s.rules.codes 0 s.tipsets fault own) codes own
+
+-- what stays of an outline that was judged
+pub stays : (blocks : List BlockParts) (root : CidParts) (o : Outline) (ts : List Tipset) (text : SpelledScenario) → IsOutline o ts → IsRaw (raw_scenario o ts) → HasCodes blocks root (raw_scenario o ts)
+    → tipsets_judged blocks o.rules.codes 0 ts ≡ None → text ≡ spelled_of o → IsJudged blocks root text ts
+stays blocks root o ts text is raw codes judged same =
+    let whole : scenario_with text ts ≡ scenario_of (raw_scenario o ts) = ap (λ (t : SpelledScenario). scenario_with t ts) same in
+    let ranges = ranges_hold blocks root (raw_scenario o ts) (scenario_with text ts) raw codes whole in
+    record {
+      scenario = scenario_is blocks root (raw_scenario o ts) ts (scenario_with text ts) codes refl judged whole;
+      spelled = subst (λ (t : SpelledScenario). Spells t ts) (sym same) (record { parts = is.parts; read = is.read });
+      rules = ranges.0;
+      tipsets = ranges.1;
+    }

@@ -15,3 +15,5 @@ mod TipsetReads
 mod WithinLimits
 mod PartTexts
 mod FieldSteps
+mod KeptTipsets
+mod TipsetTexts

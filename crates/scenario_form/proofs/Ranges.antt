@@ -87,7 +87,7 @@ tipset_fields_good value f part read =
       blocks = list_parts items.0 3 blocks.0 (fields_parts value 4 items.0 part items.1) blocks.1;
     })
 
-tipset_good : (t : ℕ) (value : Value) (tipset : Tipset) → IsPart value → tipset_read t value ≡ Ok tipset → IsRawTipset tipset
+pub tipset_good : (t : ℕ) (value : Value) (tipset : Tipset) → IsPart value → tipset_read t value ≡ Ok tipset → IsRawTipset tipset
 unfolding tipset_read
 tipset_good t value tipset part read =
     let fields = both_read (read_at (tipset_at t) (tipset_fields value)) _ tipset read in

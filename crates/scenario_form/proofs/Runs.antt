@@ -24,10 +24,10 @@ abbrev pub AreOver : List BlockParts → Codes → State → List Tipset → Typ
 AreOver blocks codes s run = All (IsOver blocks codes s) run
 
 -- what is judged where the state loads
-abbrev judged_in : State → ℕ → Tipset → Option ScenarioFault
+abbrev pub judged_in : State → ℕ → Tipset → Option ScenarioFault
 judged_in s n t = cond (not (all_below_next s)) (Some (Next n)) (cond (not (has_room_for (awards t) s)) (Some (Total n)) None)
 
-judged_over : (blocks : List BlockParts) (codes : Codes) (n : ℕ) (t : Tipset) (s : State) → state_at blocks t.root codes ≡ Ok s → tipset_judged blocks codes n t ≡ judged_in s n t
+pub judged_over : (blocks : List BlockParts) (codes : Codes) (n : ℕ) (t : Tipset) (s : State) → state_at blocks t.root codes ≡ Ok s → tipset_judged blocks codes n t ≡ judged_in s n t
 judged_over blocks codes n t s is = rw is refl
 
 first_fault : (blocks : List BlockParts) (codes : Codes) (n : ℕ) (t : Tipset) (ts : List Tipset) (fault : ScenarioFault) → tipset_judged blocks codes n t ≡ Some fault → tipsets_judged blocks codes n (t ∷ ts) ≡ Some fault

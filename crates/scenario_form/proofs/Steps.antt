@@ -1,5 +1,5 @@
 -- Readings one after another, and of each value with its number.
-use Rattle.std.proofs.Common.{◌≡◌, ℕ, ◌+◌, ◌<◌, ◌≤◌, List, [], ◌∷◌, ◌++◌, length, get_or, drop, append_assoc, Result, Ok, Err, refl, sym, ap, ◌∙◌, arith}
+use Rattle.std.proofs.Common.{◌≡◌, ℕ, zero, suc, ◌+◌, ◌<◌, ◌≤◌, List, [], ◌∷◌, ◌++◌, length, get_or, drop, append_assoc, Result, Ok, Err, refl, sym, ap, ◌∙◌, arith}
 use Rattle.std.specs.Prelude.{All}
 use Rattle.std.proofs.lemmas.List.{append-nil, drop_all, drop_more}
 use Rattle.std.proofs.lemmas.List.Elements.{All-cons, All-head, All-nil, All-same, All-tail}
@@ -81,3 +81,18 @@ each_holds Q P f holds n (value ∷ values) xs all is =
     let rest = both_read (each_read f (n + 1) values) _ xs first.2 in
     All-same P xs (first.0 ∷ rest.0) (ok_same _ xs (first.0 ∷ rest.0) rest.2 refl)
     (All-cons P first.0 rest.0 (holds n value first.0 (All-head Q value values all) first.1) (each_holds Q P f holds (n + 1) values rest.0 (All-tail Q value values all) rest.1))
+
+-- what is read of the value at a place
+pub each_at : {E A : Type 0} (f : ℕ → Value → Result A E) (n m : ℕ) (values : List Value) (xs : List A) (i : ℕ) (v : Value) (x : A) → m ≡ n + i → i < length values → each_read f n values ≡ Ok xs
+    → f m (get_or values i v) ≡ Ok (get_or xs i x)
+each_at f n m [] xs i v x place within is = absurd (omega arith)
+each_at f n m (value ∷ values) xs zero v x place within is =
+    let first = both_read (f n value) _ xs is in
+    let rest = both_read (each_read f (n + 1) values) _ xs first.2 in
+    let same : m ≡ n = omega (arith, place) in
+    ap (λ (k : ℕ). f k value) same ∙ first.1 ∙ ap (λ (ys : List _). Ok (get_or ys 0 x)) (ok_same _ (first.0 ∷ rest.0) xs refl rest.2)
+each_at f n m (value ∷ values) xs (suc i) v x place within is =
+    let first = both_read (f n value) _ xs is in
+    let rest = both_read (each_read f (n + 1) values) _ xs first.2 in
+    each_at f (n + 1) m values rest.0 i v x (omega (arith, place)) (omega (arith, within)) rest.1
+    ∙ ap (λ (ys : List _). Ok (get_or ys (suc i) x)) (ok_same _ (first.0 ∷ rest.0) xs refl rest.2)

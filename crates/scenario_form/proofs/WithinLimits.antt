@@ -14,7 +14,7 @@ use Rattle.scenario_form.specs.Judging.{exceeded_limit, has_long_block, has_long
 use Rattle.scenario_form.specs.Parts.{IsRaw, IsRawBlock, IsRawTipset}
 use Rattle.scenario_form.specs.declared.raw.RawScenario.{RawScenario}
 
-abbrev first_of_six : Bool → Bool → Bool → Bool → Bool → Bool → Option ℕ
+abbrev pub first_of_six : Bool → Bool → Bool → Bool → Bool → Bool → Option ℕ
 first_of_six a b c d e f = cond a (Some 0) (cond b (Some 1) (cond c (Some 2) (cond d (Some 3) (cond e (Some 4) (cond f (Some 5) None)))))
 
 none_of_six : (a b c d e f : Bool) → first_of_six a b c d e f ≡ None

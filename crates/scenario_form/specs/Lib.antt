@@ -4,3 +4,5 @@ pub mod Reading
 pub mod Judging
 pub mod Room
 pub mod Answer
+pub mod Outlines
+pub mod Judged

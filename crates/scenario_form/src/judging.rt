@@ -1,29 +1,32 @@
-ghost use Rattle.std.specs.Prelude.{◌≡◌, IfErr, IfOk, List};
+ghost use Rattle.std.specs.Prelude.{◌≡◌, ◌<◌, ◌^◌, IfErr, IfOk, List, length};
 ghost use Rattle.cid_core.specs.BlockParts.{BlockParts};
 ghost use Rattle.fil_base.specs.CidParts.{CidParts};
 ghost use Rattle.fil_message.specs.Tipsets.{has_equal_codes};
+ghost use Rattle.fil_message.specs.declared.tipset.Tipset.{Tipset};
 ghost use Rattle.scenario_form.specs.Answer.{HasCodes, HasParts, IsScenarioFault};
-ghost use Rattle.scenario_form.specs.Parts.{IsRaw};
+ghost use Rattle.scenario_form.specs.Outlines.{AreOutlines, raw_scenario};
 
 use crate::fault::ScenarioFault;
 use crate::limits::exceeded_limit;
-use crate::raw::RawScenario;
+use crate::outline::Outline;
 use gas_prices::{Codes, PriceList};
 
 /// The prices of a scenario, where they, the limits and the codes are in order.
-pub(crate) fn judge_rules(scenario: &RawScenario) -> Result<PriceList, ScenarioFault>
-    requires { IsRaw scenario.now }
-    ensures prices { IfOk result (λ prices. prices ≡ scenario.now.rules.prices) }
-    ensures found { (blocks : List BlockParts) (root : CidParts) → HasParts blocks root scenario.now
-        → IfOk result (λ _. HasCodes blocks root scenario.now) }
-    ensures fault { (blocks : List BlockParts) (root : CidParts) → HasParts blocks root scenario.now
-        → IfErr result (IsScenarioFault blocks root) }
+pub(crate) fn judge_rules(outline: &Outline<'_>) -> Result<PriceList, ScenarioFault>
+    requires { length outline.now.rules.prices < 2 ^ 32 }
+    ensures prices { IfOk result (λ prices. prices ≡ outline.now.rules.prices) }
+    ensures found { (blocks : List BlockParts) (root : CidParts) (tipsets : List Tipset) →
+        AreOutlines outline.now.kept tipsets → HasParts blocks root (raw_scenario outline.now tipsets) →
+        IfOk result (λ _. HasCodes blocks root (raw_scenario outline.now tipsets)) }
+    ensures fault { (blocks : List BlockParts) (root : CidParts) (tipsets : List Tipset) →
+        AreOutlines outline.now.kept tipsets → HasParts blocks root (raw_scenario outline.now tipsets) →
+        IfErr result (IsScenarioFault blocks root) }
 {
-    let prices = PriceList::from_list(scenario.rules.prices.as_slice())?;
-    if let Some(limit) = exceeded_limit(scenario) {
+    let prices = PriceList::from_list(outline.rules.prices.as_slice())?;
+    if let Some(limit) = exceeded_limit(outline) {
         return Err(ScenarioFault::Limit(limit));
     }
-    if have_equal(&scenario.rules.codes) {
+    if have_equal(&outline.rules.codes) {
         return Err(ScenarioFault::Codes);
     }
     Ok(prices)

@@ -2,7 +2,10 @@
 //! loaded and judged.
 //!
 //! ```text
-//! let scenario = read_scenario(alloc, &car.root, &base)?;
+//! let scenario = judge_scenario(alloc, &car.root, &base)?;
+//! for place in 0..scenario.len() {
+//!     let tipset = scenario.tipset(alloc, place)?;
+//! }
 //! ```
 #![tactic(auto)]
 
@@ -11,6 +14,7 @@ mod judging;
 mod laws;
 mod limits;
 mod open_state;
+mod outline;
 mod place;
 mod raw;
 mod reading;
@@ -19,14 +23,16 @@ mod rule_fields;
 mod scenario;
 mod scenario_fields;
 mod spelled;
+mod spelled_scenario;
 mod states;
 mod tipset_fields;
 
 pub use fault::ScenarioFault;
 pub use laws::one_scenario;
 pub use place::Place;
-pub use reading::read_scenario;
+pub use reading::{judge_scenario, read_scenario};
 pub use scenario::Scenario;
+pub use spelled_scenario::SpelledScenario;
 
 #[cfg(test)]
 mod test_scenarios;

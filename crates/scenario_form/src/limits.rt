@@ -1,10 +1,11 @@
-ghost use Rattle.std.specs.Prelude.{◌≡◌, ◌≤◌, All, length, nat_lt};
+ghost use Rattle.std.specs.Prelude.{◌≡◌, All, length, nat_lt};
 ghost use Rattle.std.specs.List.{list_any};
 ghost use Rattle.fil_message.specs.Sound.{IsMessage};
-ghost use Rattle.scenario_form.specs.Judging.{exceeded_limit, has_long_block, has_long_message, is_long, is_outside};
-ghost use Rattle.scenario_form.specs.Parts.{IsRaw, IsRawBlock, IsRawTipset};
+ghost use Rattle.scenario_form.specs.Outlines.{outline_limit};
+ghost use Rattle.scenario_form.specs.Judging.{is_long, is_outside};
+ghost use Rattle.scenario_form.specs.Parts.{IsRawBlock};
 
-use crate::raw::RawScenario;
+use crate::outline::Outline;
 use fil_message::{Message, TipBlock, Tipset, message_len};
 
 /// The greatest depth of calls.
@@ -26,22 +27,21 @@ const MOST_MESSAGES: usize = 10_000;
 const LONGEST_MESSAGE: u64 = 1_048_576;
 
 /// The least number of a limit that is exceeded, as [`ScenarioFault::Limit`](crate::ScenarioFault::Limit) has them.
-pub(crate) fn exceeded_limit(scenario: &RawScenario) -> Option<u32>
-    requires { IsRaw scenario.now }
-    ensures { result ≡ exceeded_limit scenario.now }
+pub(crate) fn exceeded_limit(outline: &Outline<'_>) -> Option<u32>
+    ensures { result ≡ outline_limit outline.now }
 {
-    let tipsets = scenario.tipsets.as_slice();
-    if is_outside(scenario.rules.depth, GREATEST_DEPTH) {
+    let tipsets = outline.kept.tipsets.as_slice();
+    if is_outside(outline.rules.depth, GREATEST_DEPTH) {
         Some(0)
-    } else if is_outside(scenario.rules.pages, GREATEST_PAGES) {
+    } else if is_outside(outline.rules.pages, GREATEST_PAGES) {
         Some(1)
     } else if tipsets.len() > MOST_TIPSETS {
         Some(2)
     } else if have_many_blocks(tipsets) {
         Some(3)
-    } else if have_long_block(tipsets) {
+    } else if outline.kept.has_long_block {
         Some(4)
-    } else if have_long_message(tipsets) {
+    } else if outline.kept.has_long_message {
         Some(5)
     } else {
         None
@@ -73,19 +73,8 @@ fn has_many_blocks(tipset: &Tipset) -> bool
     tipset.blocks.as_slice().len() > MOST_BLOCKS
 }
 
-/// Whether a block of a tipset has too many messages.
-fn have_long_block(tipsets: &[Tipset]) -> bool
-    ensures { result ≡ list_any has_long_block tipsets.now }
-{
-    for tipset in tipsets {
-        if has_long_block(tipset.blocks.as_slice()) {
-            return true;
-        }
-    }
-    false
-}
-
-fn has_long_block(blocks: &[TipBlock]) -> bool
+/// Whether one of these blocks has too many messages.
+pub(crate) fn has_long_block(blocks: &[TipBlock]) -> bool
     ensures { result ≡ list_any (λ b. nat_lt 10000 (length b.messages)) blocks.now }
 {
     for block in blocks {
@@ -102,20 +91,8 @@ fn has_many_messages(block: &TipBlock) -> bool
     block.messages.as_slice().len() > MOST_MESSAGES
 }
 
-/// Whether a message of a tipset is too long.
-fn have_long_message(tipsets: &[Tipset]) -> bool
-    requires { All IsRawTipset tipsets.now }
-    ensures { result ≡ list_any has_long_message tipsets.now }
-{
-    for tipset in tipsets {
-        if blocks_have_long_message(tipset.blocks.as_slice()) {
-            return true;
-        }
-    }
-    false
-}
-
-fn blocks_have_long_message(blocks: &[TipBlock]) -> bool
+/// Whether a message of one of these blocks is too long.
+pub(crate) fn blocks_have_long_message(blocks: &[TipBlock]) -> bool
     requires { All IsRawBlock blocks.now }
     ensures { result ≡ list_any (λ b. list_any is_long b.messages) blocks.now }
 {

@@ -18,7 +18,8 @@ pub(crate) struct RawRules {
     pub codes: Codes,
 }
 
-/// A scenario, before its rules and states are judged.
+/// A scenario, before its rules and states are judged. Definitions speak of it; what the code has of it at a time is an
+/// [`Outline`](crate::outline::Outline).
 #[derive(Drop)]
 pub(crate) struct RawScenario {
     /// The rules.

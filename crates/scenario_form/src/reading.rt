@@ -1,11 +1,14 @@
-ghost use Rattle.std.specs.Prelude.{◌<◌, ◌≤◌, ◌^◌, ◌≡◌, All, IfErr, IfOk, IsTrue, OnOk, Some, false, length};
+ghost use Rattle.std.specs.Prelude.{◌<◌, ◌≤◌, ◌^◌, ◌≡◌, All, IfErr, IfOk, IsTrue, List, OnOk, Some, false, length};
 ghost use Rattle.cid_core.specs.BlockParts.{BlockParts, found};
 ghost use Rattle.dag_cbor.specs.Faults.{IsFault};
 ghost use Rattle.dag_cbor.specs.Plain.{IsPlain};
 ghost use Rattle.dag_cbor.specs.Spelling.{spelled};
 ghost use Rattle.fil_base.specs.Failure.{IfFault};
 ghost use Rattle.fil_message.specs.Tipsets.{IsRules, IsTipset};
-ghost use Rattle.scenario_form.specs.Answer.{HasParts, HasValue, IsScenario, IsScenarioFault, scenario_of};
+ghost use Rattle.fil_message.specs.declared.tipset.Tipset.{Tipset};
+ghost use Rattle.scenario_form.specs.Answer.{HasParts, HasValue, IsScenario, IsScenarioFault};
+ghost use Rattle.scenario_form.specs.Judged.{IsJudged, spelled_of};
+ghost use Rattle.scenario_form.specs.Outlines.{IsOutline, raw_scenario};
 ghost use Rattle.scenario_form.specs.Parts.{IsRaw};
 ghost use Rattle.scenario_form.specs.Spelled.{IsPartText, the_value};
 ghost use Rattle.dag_cbor.specs.declared.value.Value.{Value};
@@ -13,9 +16,10 @@ ghost use Rattle.scenario_form.specs.declared.fault.ScenarioFault.TheVariants.{C
 
 use crate::fault::ScenarioFault;
 use crate::judging::judge_rules;
-use crate::raw::RawScenario;
+use crate::outline::Outline;
 use crate::scenario::Scenario;
-use crate::scenario_fields::parts_of;
+use crate::scenario_fields::outline_of;
+use crate::spelled_scenario::SpelledScenario;
 use crate::states::judge_states;
 use block_base::Base;
 use cid_core::BlockSource;
@@ -36,45 +40,69 @@ pub fn read_scenario(
     ensures ranges { IfOk result (λ s. IsRules s.rules × All IsTipset s.tipsets) }
     ensures fault { IfErr result (λ failure. IfFault failure (IsScenarioFault base.now root.now)) }
 {
-    let raw = parts_under(alloc, root, base)?;
-    let prices = judge_rules(&raw)?;
-    judge_states(alloc, base, &raw.rules.codes, raw.tipsets.as_slice())?;
-    Ok(scenario_of(raw, prices))
+    let text = judge_scenario(alloc, root, base)?;
+    let tipsets = text.all_tipsets(alloc)?;
+    Ok(Scenario {
+        rules: text.rules,
+        tipsets,
+    })
 }
 
-/// The scenario of parts that were judged, with its prices.
-fn scenario_of(raw: RawScenario, prices: PriceList) -> Scenario
-    requires prices { prices ≡ raw.rules.prices }
-    requires depth { raw.rules.depth ≤ 64 }
-    requires pages { raw.rules.pages ≤ 512 }
-    ensures { result ≡ scenario_of raw }
+/// The scenario under a root, judged as [`read_scenario`] does, whose tipsets stay in the bytes of its block. While it is
+/// judged, one tipset at a time is there with its messages.
+pub fn judge_scenario<'a>(
+    alloc: Global,
+    root: &Cid,
+    base: &'a Base,
+) -> Result<SpelledScenario<'a>, Failure<ScenarioFault>>
+    requires { (block : BlockParts) → found base.now root.now ≡ Some block → length block.bytes < 2 ^ 32 }
+    ensures found { IfOk result (λ text. (tipsets : List Tipset) × IsJudged base.now root.now text tipsets) }
+    ensures fault { IfErr result (λ failure. IfFault failure (IsScenarioFault base.now root.now)) }
 {
-    let RawScenario { rules, tipsets } = raw;
-    Scenario {
+    let outline = outline_under(alloc, root, base)?;
+    let prices = judge_rules(&outline)?;
+    judge_states(
+        alloc,
+        base,
+        &outline.rules.codes,
+        outline.kept.tipsets.as_slice(),
+    )?;
+    Ok(spelled_of(outline, prices))
+}
+
+/// What stays of a scenario that was judged, with its prices.
+fn spelled_of<'a>(outline: Outline<'a>, prices: PriceList) -> SpelledScenario<'a>
+    requires prices { prices ≡ outline.rules.prices }
+    requires depth { outline.rules.depth ≤ 64 }
+    requires pages { outline.rules.pages ≤ 512 }
+    ensures { result ≡ spelled_of outline.entry }
+{
+    let Outline { rules, texts, .. } = outline;
+    SpelledScenario {
         rules: Rules {
             prices,
             depth: rules.depth as u32,
             pages: rules.pages as u32,
             codes: rules.codes,
         },
-        tipsets,
+        tipsets: texts,
     }
 }
 
-/// The parts of the scenario under a root, each by itself.
-fn parts_under(
+/// The outline of the scenario under a root, of which each part is read by itself.
+fn outline_under<'a>(
     alloc: Global,
     root: &Cid,
-    base: &Base,
-) -> Result<RawScenario, Failure<ScenarioFault>>
+    base: &'a Base,
+) -> Result<Outline<'a>, Failure<ScenarioFault>>
     requires { (block : BlockParts) → found base.now root.now ≡ Some block → length block.bytes < 2 ^ 32 }
-    ensures found { IfOk result (HasParts base.now root.now) }
-    ensures ranges { IfOk result IsRaw }
+    ensures found { IfOk result (λ outline. (tipsets : List Tipset) × IsOutline outline tipsets
+        × IsRaw (raw_scenario outline tipsets) × HasParts base.now root.now (raw_scenario outline tipsets)) }
     ensures fault { IfErr result (λ failure. IfFault failure (IsScenarioFault base.now root.now)) }
 {
     let bytes = bytes_under(alloc, root, base)?;
-    match parts_of(alloc, bytes) {
-        Ok(raw) => Ok(raw),
+    match outline_of(alloc, bytes) {
+        Ok(outline) => Ok(outline),
         Err(Failure::NoMemory) => Err(Failure::NoMemory),
         Err(Failure::Fault((place, fault))) => Err(Failure::Fault(ScenarioFault::Form(
             place, fault,

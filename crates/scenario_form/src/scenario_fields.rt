@@ -1,15 +1,17 @@
-ghost use Rattle.std.specs.Prelude.{◌≡◌, All, Err, IfErr, IfOk, Ok, map};
+ghost use Rattle.std.specs.Prelude.{◌≡◌, All, Err, IfErr, IfOk, List, Ok, map};
 ghost use Rattle.fil_base.specs.Failure.{IfFault};
-ghost use Rattle.scenario_form.specs.Parts.{IsPart, IsRaw};
+ghost use Rattle.fil_message.specs.declared.tipset.Tipset.{Tipset};
+ghost use Rattle.scenario_form.specs.Outlines.{IsOutline, raw_scenario};
+ghost use Rattle.scenario_form.specs.Parts.{IsPart};
 ghost use Rattle.scenario_form.specs.Reading.{scenario_fields, scenario_front, scenario_read};
 ghost use Rattle.scenario_form.specs.Spelled.{ArePartTexts, IsPartText, the_value, the_values};
 
 use crate::fault::FormFault;
+use crate::outline::{Outline, outlines_of};
 use crate::place::{Place, failed_at};
-use crate::raw::{RawRules, RawScenario};
+use crate::raw::RawRules;
 use crate::rule_fields::rules_at;
 use crate::spelled::{items_at, list_of, values_of};
-use crate::tipset_fields::tipsets_of;
 use cbor_fields::FieldFault;
 use dag_cbor::Value;
 use fil_base::Failure;
@@ -23,31 +25,23 @@ struct ScenarioFields<'a> {
     tipsets: Vec<&'a [u8]>,
 }
 
-/// The parts of the scenario that these bytes spell, each by itself: `[1, rules, tipsets]`. Of its values only those that
-/// are read at the time are made.
-pub(crate) fn parts_of(alloc: Global, bytes: &[u8]) -> Result<RawScenario, Failure<FormFault>>
+/// The outline of the scenario that these bytes spell: `[1, rules, tipsets]`. Of its values only those that are read at the
+/// time are made.
+pub(crate) fn outline_of(alloc: Global, bytes: &[u8]) -> Result<Outline<'_>, Failure<FormFault>>
     requires { IsPartText bytes.now }
-    ensures found { IfOk result (λ s. scenario_read (the_value bytes.now) ≡ Ok s) }
-    ensures ranges { IfOk result IsRaw }
-    ensures fault { IfErr result (λ failure. IfFault failure (λ fault. scenario_read (the_value bytes.now) ≡ Err fault)) }
-{
-    let raw = raw_of(alloc, bytes)?;
-    Ok(raw)
-}
-
-fn raw_of(alloc: Global, bytes: &[u8]) -> Result<RawScenario, Failure<FormFault>>
-    requires { IsPartText bytes.now }
-    ensures found { IfOk result (λ s. scenario_read (the_value bytes.now) ≡ Ok s) }
+    ensures found { IfOk result (λ outline. (tipsets : List Tipset) × IsOutline outline tipsets
+        × (scenario_read (the_value bytes.now) ≡ Ok (raw_scenario outline tipsets))) }
     ensures fault { IfErr result (λ failure. IfFault failure (λ fault. scenario_read (the_value bytes.now) ≡ Err fault)) }
 {
     let fields = match scenario_fields(alloc, bytes) {
         Ok(fields) => fields,
         Err(failure) => return Err(failed_at(Place::scenario(), failure)),
     };
-    let tipsets = tipsets_of(alloc, fields.tipsets.as_slice())?;
-    Ok(RawScenario {
+    let kept = outlines_of(alloc, fields.tipsets.as_slice())?;
+    Ok(Outline {
         rules: fields.rules,
-        tipsets,
+        texts: fields.tipsets,
+        kept,
     })
 }
 

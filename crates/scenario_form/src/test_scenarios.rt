@@ -1,7 +1,7 @@
 ghost use Rattle.std.specs.Prelude.{◌<◌, ◌≡◌, ◌^◌, Some, length, true};
 ghost use Rattle.cid_core.specs.BlockParts.{BlockParts, found};
 
-use crate::{Place, Scenario, ScenarioFault, read_scenario};
+use crate::{Place, ScenarioFault, judge_scenario};
 use block_base::Base;
 use cbor_fields::FieldFault;
 use cid_core::{Block, BlockSource};
@@ -102,7 +102,7 @@ fn answer_under(alloc: Global, root: &Cid, base: &Base) -> Answer {
     if !is_short(root, base) {
         return Answer::NoMemory;
     }
-    match read_scenario(alloc, root, base) {
+    match judge_scenario(alloc, root, base) {
         Ok(_) => Answer::Scenario,
         Err(Failure::NoMemory) => Answer::NoMemory,
         Err(Failure::Fault(fault)) => kind_of(&fault),

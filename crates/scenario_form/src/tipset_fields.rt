@@ -46,7 +46,11 @@ pub(crate) fn tipsets_of(alloc: Global, list: &[&[u8]]) -> Result<Row<Tipset>, F
 }
 
 /// The tipset of this place: `[epoch, base fee, state root, blocks]`.
-fn tipset_of(alloc: Global, tipset: u32, bytes: &[u8]) -> Result<Tipset, Failure<FormFault>>
+pub(crate) fn tipset_of(
+    alloc: Global,
+    tipset: u32,
+    bytes: &[u8],
+) -> Result<Tipset, Failure<FormFault>>
     requires { IsPartText bytes.now }
     ensures found { IfOk result (λ found. tipset_read tipset (the_value bytes.now) ≡ Ok found) }
     ensures fault { IfErr result (λ failure. IfFault failure (λ fault. tipset_read tipset (the_value bytes.now) ≡ Err fault)) }

@@ -1,7 +1,6 @@
-use Rattle.std.proofs.Common.{◌≡◌, Some, sym, ap, ◌∙◌, refl}
+use Rattle.std.proofs.Common.{Some, sym, ap, ◌∙◌}
 use Rattle.std.specs.Io.KnownBytes.{Appends}
 use Rattle.fvm_run.specs.Writing.{TakesPrefix}
-use Rattle.fvm_run.specs.declared.command.Command.{Command}
 use Rattle.fvm_run.specs.declared.command.Command.TheVariants.{Run, Check}
 use Rattle.fvm_run.specs.declared.status.Status.TheVariants as status
 use Rattle.fvm_run.proofs.Ends.{calm_of, complete_of, refused_of, text_of, words_calm, words_complete, words_text}

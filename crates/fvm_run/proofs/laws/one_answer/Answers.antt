@@ -1,4 +1,3 @@
-use Rattle.std.proofs.Common.{◌↔◌}
 use Rattle.fvm_run.proofs.OneAnswer.{one_answer_of}
 use Rattle.fvm_run.proofs.laws.one_answer.Goals as goal
 

@@ -1,7 +1,0 @@
-use Rattle.std.proofs.Common.{◌≡◌, false, take}
-use Rattle.std.specs.List.{list_any}
-use Rattle.scenario_form.specs.Judging.{has_long_block}
-use Rattle.scenario_form.proofs.limits.have_long_block.Given as goal
-
-abbrev pub invariant-loop-tipset : goal.invariant-loop-tipset
-invariant-loop-tipset l = list_any has_long_block (take l.tipset-index l.tipsets) ≡ false
