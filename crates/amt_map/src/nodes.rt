@@ -12,12 +12,15 @@ use crate::pairs::Spelled;
 use crate::runs::{digit_at, first_run, height_of};
 use crate::slots::Slots;
 use cid_core::Block;
-use dag_cbor::{Value, encode};
+use dag_cbor::{Value, encode, put_link};
 use fil_base::{Bytes, Cid, Mem};
 use std::alloc::Global;
 
 /// The codec of DAG-CBOR (multicodec).
 pub(crate) const DAG_CBOR: u64 = 0x71;
+
+/// The length of the spelling of a link to a node.
+const LINK_LEN: usize = 43;
 
 /// The block of the node at a height of these pairs: indexes with the spellings of their values.
 pub(crate) fn node_block(alloc: Global, height: u64, pairs: &[(u64, Vec<u8>)]) -> Mem<Block>
@@ -117,7 +120,7 @@ fn put_children(
     ensures under { OnOk result (blocks.new.items
         ≡ blocks.old.items ++ blocks_under (suc below) (map (λ p. (p.0, p.1.now)) pairs.now)) }
 {
-    let mut links = Slots::none(alloc);
+    let mut links = Slots::none(alloc)?;
     let mut done = 0;
     while done < pairs.len() {
         let (_, rest) = pairs.split_at(done);
@@ -145,9 +148,10 @@ fn put_child(
 {
     let bytes = write_node(alloc, blocks, height, pairs)?;
     let block = Block::of(alloc, DAG_CBOR, Bytes::of(bytes))?;
-    let link = Value::Link(block.cid().copy(alloc)?);
+    let mut link = Vec::with_capacity(alloc, LINK_LEN)?;
+    put_link(&mut link, block.cid())?;
     blocks.push(block)?;
-    encode(alloc, &link)
+    Ok(Bytes::of(link))
 }
 
 /// The bytes of the node at height 0 of these pairs.
@@ -155,7 +159,7 @@ fn leaf(alloc: Global, pairs: &[(u64, &[u8])]) -> Mem<Vec<u8>>
     requires { (place : ℕ) × IsOneNode 0 place (map (λ p. (p.0, p.1.now)) pairs.now) }
     ensures { IfOk result (λ bytes. bytes.items ≡ text_at 0 (map (λ p. (p.0, p.1.now)) pairs.now)) }
 {
-    let mut values = Slots::none(alloc);
+    let mut values = Slots::none(alloc)?;
     for pair in pairs {
         values.put(digit_at(0, pair.0), pair.1)?;
     }

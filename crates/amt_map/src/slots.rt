@@ -5,6 +5,9 @@ ghost use Rattle.amt_map.specs.NodeText.{node_text};
 use fil_base::Mem;
 use std::alloc::Global;
 
+/// The room that is made at first for the spellings of a node, in bytes. Eight links or actors' records need no more.
+const USUAL_LEN: usize = 1024;
+
 /// What stands at the digits of a node: links or values.
 #[derive(Drop)]
 pub(crate) struct Slots {
@@ -20,16 +23,17 @@ pub(crate) struct Slots {
 
 impl Slots {
     /// Nothing at each digit.
-    pub(crate) fn none(alloc: Global) -> Slots
-        ensures bitmap { result.bitmap ≡ 0 }
-        ensures count { result.count ≡ 0 }
-        ensures spellings { result.spellings.items ≡ [] }
+    pub(crate) fn none(alloc: Global) -> Mem<Slots>
+        ensures bitmap { IfOk result (λ slots. slots.bitmap ≡ 0) }
+        ensures count { IfOk result (λ slots. slots.count ≡ 0) }
+        ensures spellings { IfOk result (λ slots. slots.spellings.items ≡ []) }
     {
-        Slots {
+        let spellings = Vec::with_capacity(alloc, USUAL_LEN)?;
+        Ok(Slots {
             bitmap: 0,
             count: 0,
-            spellings: Vec::new(alloc),
-        }
+            spellings,
+        })
     }
 
     /// Puts what is spelled so at a digit at which nothing stands, above the others.
@@ -53,7 +57,7 @@ impl Slots {
         ensures { (values : List (List ℕ)) → self.now.count ≡ length values → self.now.spellings.items ≡ joined values
             → IfOk result (λ bytes. bytes.items ≡ node_text self.now.bitmap [] values) }
     {
-        let mut bytes = Vec::with_capacity(alloc, 5)?;
+        let mut bytes = Vec::with_capacity(alloc, 5 + self.spellings.len())?;
         bytes.extend_from_slice(&[0x83, 0x41, self.bitmap, 0x80, 0x80 + self.count])?;
         bytes.extend_from_slice(self.spellings.as_slice())?;
         Ok(bytes)
@@ -65,7 +69,7 @@ impl Slots {
         ensures { (links : List (List ℕ)) → self.now.count ≡ length links → self.now.spellings.items ≡ joined links
             → IfOk result (λ bytes. bytes.items ≡ node_text self.now.bitmap links []) }
     {
-        let mut bytes = Vec::with_capacity(alloc, 5)?;
+        let mut bytes = Vec::with_capacity(alloc, 5 + self.spellings.len())?;
         bytes.extend_from_slice(&[0x83, 0x41, self.bitmap, 0x80 + self.count])?;
         bytes.extend_from_slice(self.spellings.as_slice())?;
         bytes.push(0x80)?;

@@ -20,6 +20,7 @@ mod JudgeSteps
 mod LinkBytes
 mod CidForms
 mod SkipSteps
+mod ShortItems
 mod SkipFronts
 pub mod Fronts
 mod ItemTexts

@@ -10,17 +10,57 @@ use crate::writing::{put_bool, put_head, put_integer, put_link, put_string};
 use fil_base::{Bytes, Mem};
 use std::alloc::Global;
 
-/// The room that is made at first for a spelling, in bytes. Few values in the trees of the chain need more.
-const USUAL_LEN: usize = 64;
+/// The greatest length of a head, in bytes.
+const HEAD_LEN: usize = 9;
+
+/// The length of the head of a list of at most 65,535 items.
+const LIST_HEAD_LEN: usize = 3;
+
+/// How many bytes a usual link has in front of its digest.
+const LINK_FRONT_LEN: usize = 11;
+
+/// The room that is made for a list or a map within a list, in bytes.
+const INNER_LEN: usize = 64;
 
 /// The one spelling of a value.
 pub fn encode(alloc: Global, value: &Value) -> Mem<Bytes>
     requires { IsPlain MAX_DEPTH value.now }
     ensures { IfOk result (λ bytes. bytes ≡ spelled value.now) }
 {
-    let mut out = Vec::with_capacity(alloc, USUAL_LEN)?;
+    let mut out = Vec::with_capacity(alloc, room_for(value))?;
     put_value(&mut out, MAX_DEPTH, value)?;
     Ok(Bytes::of(out))
+}
+
+/// About as many bytes as the spelling of a value has, so that few values are moved while they are written: no fewer for
+/// a list of at most 65,535 numbers, strings and usual links, as an actor's record is.
+fn room_for(value: &Value) -> usize {
+    match value {
+        Value::List(items) => room_for_items(items.as_slice()),
+        _ => room_for_item(value),
+    }
+}
+
+/// Likewise for the list of these items.
+fn room_for_items(items: &[Value]) -> usize {
+    let mut room = LIST_HEAD_LEN;
+    for item in items {
+        room = room.saturating_add(room_for_item(item));
+    }
+    room
+}
+
+/// Likewise for an item of a list, without regard to the items in it.
+fn room_for_item(item: &Value) -> usize {
+    match item {
+        Value::Null | Value::Bool(_) => 1,
+        Value::Int(_) => HEAD_LEN,
+        Value::Blob(bytes) => HEAD_LEN.saturating_add(bytes.as_slice().len()),
+        Value::Text(text) => HEAD_LEN.saturating_add(text.as_slice().len()),
+        Value::List(_) => INNER_LEN,
+        Value::Map(_) => INNER_LEN,
+        Value::Link(cid) => LINK_FRONT_LEN.saturating_add(cid.digest().len()),
+    }
 }
 
 /// Writes the spelling of a value of at most this depth.

@@ -25,6 +25,7 @@ mod nested;
 mod partial;
 mod plain;
 mod rows;
+mod short_item;
 mod skipping;
 mod text;
 mod token;

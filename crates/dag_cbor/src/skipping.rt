@@ -6,17 +6,31 @@ use crate::fault::{CborKind, Flaw};
 use crate::head::{BYTES, Head, LIST, MAP, TAG, TEXT, head_of};
 use crate::key::{any_key_of, next_key_of};
 use crate::link_form::skip_link;
+use crate::short_item::behind_short_item;
 use crate::text::{blob_of, text_of};
 use crate::usual_link::behind_usual_link;
 
-/// The bytes behind the item at the front, which nests at most so deep.
+/// The bytes behind the item at the front, which nests at most so deep. Most items of the chain's blocks are short or
+/// usual links.
+#[inline(always)]
 #[cycle(skipping)]
 pub fn skip_item(depth: u64, bytes: &[u8]) -> Result<&[u8], Flaw>
     ensures { Gives (λ rest. rest.now) result (behind (item_at depth bytes.now)) }
 {
+    if let Some(rest) = behind_short_item(depth, bytes) {
+        return Ok(rest);
+    }
     if let Some(rest) = behind_usual_link(depth, bytes) {
         return Ok(rest);
     }
+    skip_any_item(depth, bytes)
+}
+
+/// The bytes behind the item at the front, of any kind.
+#[cycle(skipping)]
+fn skip_any_item(depth: u64, bytes: &[u8]) -> Result<&[u8], Flaw>
+    ensures { Gives (λ rest. rest.now) result (behind (item_at depth bytes.now)) }
+{
     let left = bytes.len() as u64;
     let (head, after) = head_of(bytes)?;
     if depth == 0 {

@@ -15,6 +15,10 @@ pub(crate) const BYTES: u8 = 2;
 /// The major type of lists.
 pub(crate) const LIST: u8 = 4;
 
+/// The room that is made at first for the spellings of a node's pointers, in bytes. Eight buckets of one actor's record
+/// need no more.
+const USUAL_LEN: usize = 1024;
+
 /// The pointers of a node: links and buckets.
 #[derive(Drop)]
 pub(crate) struct Pointers {
@@ -35,7 +39,7 @@ impl Pointers {
         ensures count { IfOk result (λ pointers. pointers.count ≡ 0) }
         ensures spellings { IfOk result (λ pointers. pointers.spellings.items ≡ []) }
     {
-        let spellings = Vec::with_capacity(alloc, 256)?;
+        let spellings = Vec::with_capacity(alloc, USUAL_LEN)?;
         Ok(Pointers {
             bits: 0,
             count: 0,

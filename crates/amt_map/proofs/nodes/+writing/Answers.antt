@@ -1,16 +1,23 @@
-use Rattle.std.proofs.Common.{ℕ, suc, List, ◌≡◌, ◌+◌, ◌-◌, ◌<◌, ◌++◌, [], ap, length, map, refl, subst, sym, ◌∙◌, arith, rules}
+use Rattle.std.proofs.Common.{ℕ, suc, List, ◌≡◌, ◌+◌, ◌-◌, ◌<◌, ◌++◌, [], ap, length, map, refl, sym, ◌∙◌, arith, rules}
 use Rattle.std.proofs.lemmas.List.{append-nil, drop-map, length-map}
 use Rattle.std.proofs.lemmas.Result.{IfOk-weaker}
 use Rattle.std.specs.List.{flat_map}
-use Rattle.fil_base.specs.CidParts.{IsCid}
+use Rattle.cid_core.specs.BlockParts.{BlockParts, block_of}
+use Rattle.dag_cbor.specs.Spelling.{spelled, spelled_layer}
+use Rattle.dag_cbor.specs.declared.value.Value.TheOpen as layer
+use Rattle.dag_cbor.specs.declared.value.Value.TheVariants as v
+use Rattle.dag_cbor.proofs.Equations.{spelled-Link}
 use Rattle.amt_map.specs.Node.{groups}
 use Rattle.amt_map.specs.NodeText.{Spellings, blocks_of, links_of, node_text, text_at}
 use Rattle.amt_map.proofs.SlotSteps.{bit_fits, few_links, inner_is, nothing_under, slot_fits, slots_end, slots_more}
-use Rattle.amt_map.proofs.Writing.{next_group, node_left, none_left, plain_link, under_end, under_is, under_more}
+use Rattle.amt_map.proofs.Writing.{next_group, node_left, none_left, under_end, under_is, under_more}
 use Rattle.amt_map.proofs.nodes.+writing.Goals as goal
 
-pub put_child-encode-requires : goal.put_child-encode-requires
-put_child-encode-requires t c = plain_link 127 c.in_ok-copy.field-0 (subst IsCid (sym (c.in_ok-copy.ensures ∙ c.cid.ensures.value)) c.cid.ensures.block.cid)
+pub put_child-returns-clause-link : goal.put_child-returns-clause-link
+put_child-returns-clause-link t c =
+    c.of-3.ensures ∙ c.in_ok-put_link.ensures ∙ ap (λ (xs : List ℕ). xs ++ spelled_layer (layer.Link c.cid.result.now)) c.in_ok-link.ensures.items
+    ∙ sym (spelled-Link c.cid.result.now)
+    ∙ ap (λ cid. spelled (v.Link cid)) (c.cid.ensures.value ∙ ap (λ (b : BlockParts). b.cid) (c.in_ok-block.ensures ∙ ap (block_of 0x71) (c.of.ensures ∙ c.in_ok-bytes.ensures.text)))
 
 pub put_children-first_run-run-requires-clause-node : goal.put_children-first_run-run-requires-clause-node
 put_children-first_run-run-requires-clause-node t c =

@@ -4,22 +4,22 @@ use Rattle.dag_cbor.specs.Reading.{item_at}
 use Rattle.dag_cbor.proofs.SkipSteps.{headless, too_deep, list_behind, map_behind, token_behind, item_passed, item_fails, items_passed, pair_passed, key_fails, pair_fails, pairs_passed, no_pairs, first_key_fails, first_pair_fails, first_pair_passed}
 use Rattle.dag_cbor.proofs.skipping.+skipping.Goals as goal
 
-pub skip_item-returns-in_err-head : goal.skip_item-returns-in_err-head
-skip_item-returns-in_err-head t c =
+pub skip_any_item-returns-in_err-head : goal.skip_any_item-returns-in_err-head
+skip_any_item-returns-in_err-head t c =
     let p = err_from_is_err_and c.from_residual.result c.from_residual.ensures.1 in
     rw (p.1, p.2) (headless c.args.depth c.args.bytes.now c.in_err-head.field-0.0 c.in_err-head.ensures)
 
-pub skip_item-returns-then-depth-eq0 : goal.skip_item-returns-then-depth-eq0
-skip_item-returns-then-depth-eq0 t c = too_deep c.args.depth c.args.bytes.now (c.in_ok-head.head, c.in_ok-head.after.now) c.in_ok-head.ensures c.if-depth-eq0.true
+pub skip_any_item-returns-then-depth-eq0 : goal.skip_any_item-returns-then-depth-eq0
+skip_any_item-returns-then-depth-eq0 t c = too_deep c.args.depth c.args.bytes.now (c.in_ok-head.head, c.in_ok-head.after.now) c.in_ok-head.ensures c.if-depth-eq0.true
 
-pub skip_item-returns-in-4 : goal.skip_item-returns-in-4
-skip_item-returns-in-4 t c = rw (list_behind c.args.depth c.args.bytes.now c.in_ok-head.head c.in_ok-head.after.now c.in_ok-head.ensures c.if-depth-eq0.false c.in-4.is) c.skip_items.ensures
+pub skip_any_item-returns-in-4 : goal.skip_any_item-returns-in-4
+skip_any_item-returns-in-4 t c = rw (list_behind c.args.depth c.args.bytes.now c.in_ok-head.head c.in_ok-head.after.now c.in_ok-head.ensures c.if-depth-eq0.false c.in-4.is) c.skip_items.ensures
 
-pub skip_item-returns-in-5 : goal.skip_item-returns-in-5
-skip_item-returns-in-5 t c = rw (map_behind c.args.depth c.args.bytes.now c.in_ok-head.head c.in_ok-head.after.now c.in_ok-head.ensures c.if-depth-eq0.false c.in-5.is) c.skip_pairs.ensures
+pub skip_any_item-returns-in-5 : goal.skip_any_item-returns-in-5
+skip_any_item-returns-in-5 t c = rw (map_behind c.args.depth c.args.bytes.now c.in_ok-head.head c.in_ok-head.after.now c.in_ok-head.ensures c.if-depth-eq0.false c.in-5.is) c.skip_pairs.ensures
 
-pub skip_item-returns-in_default-major : goal.skip_item-returns-in_default-major
-skip_item-returns-in_default-major t c =
+pub skip_any_item-returns-in_default : goal.skip_any_item-returns-in_default
+skip_any_item-returns-in_default t c =
     rw (token_behind c.args.depth c.args.bytes.now c.in_ok-head.head c.in_ok-head.after.now c.in_ok-head.ensures c.if-depth-eq0.false (λ is. omega arith) (λ is. omega arith)) c.skip_content.ensures
 
 pub skip_items-returns-in_err-rest : goal.skip_items-returns-in_err-rest
