@@ -1,5 +1,5 @@
 -- Blocks that a list does not hold, each CID once.
-use Rattle.std.proofs.Common.{◌≡◌, ℕ, List, [], ◌∷◌, ◌++◌, Bool, true, false, cond, ◌||◌, map, Option, Some, None, Vec, Global, refl, sym, ap, subst, ◌∙◌, append_assoc, append-nil}
+use Rattle.std.proofs.Common.{◌≡◌, ℕ, List, [], ◌∷◌, ◌++◌, Bool, true, false, cond, ◌||◌, Option, Some, None, refl, sym, ap, subst, ◌∙◌, append_assoc, append-nil}
 use Rattle.std.proofs.lemmas.List.Elements.{All-tail}
 use Rattle.std.specs.Prelude.{All, is_some}
 use Rattle.std.specs.List.{list_any}
@@ -52,22 +52,17 @@ found_both (x ∷ xs) ys cid =
 
 -- ---- digests
 
-any_insert : (digest : List ℕ) (keys : List (Vec ℕ Global)) (k : Vec ℕ Global) → list_any (λ d. is_eq (digest_cmp digest d)) (map (λ a. a.items) (insert_key (λ a b. digest_cmp a.items b.items) keys k))
-    ≡ (is_eq (digest_cmp digest k.items) || list_any (λ d. is_eq (digest_cmp digest d)) (map (λ a. a.items) keys))
+any_insert : (digest : List ℕ) (keys : List (List ℕ)) (k : List ℕ) → list_any (λ d. is_eq (digest_cmp digest d)) (insert_key digest_cmp keys k)
+    ≡ (is_eq (digest_cmp digest k) || list_any (λ d. is_eq (digest_cmp digest d)) keys)
 any_insert digest [] k = refl
 any_insert digest (x ∷ keys) k =
     let rest = any_insert digest keys k in
-    elim (digest_cmp k.items x.items) as (λ o. digest_cmp k.items x.items ≡ o → list_any (λ d. is_eq (digest_cmp digest d)) (map (λ a. a.items) (match_ordering o (k ∷ x ∷ keys) (x ∷ keys) (x ∷ insert_key (λ a b. digest_cmp a.items b.items) keys k)))
-    ≡ (is_eq (digest_cmp digest k.items) || (is_eq (digest_cmp digest x.items) || list_any (λ d. is_eq (digest_cmp digest d)) (map (λ a. a.items) keys)))) [
+    elim (digest_cmp k x) as (λ o. digest_cmp k x ≡ o → list_any (λ d. is_eq (digest_cmp digest d)) (match_ordering o (k ∷ x ∷ keys) (x ∷ keys) (x ∷ insert_key digest_cmp keys k))
+    ≡ (is_eq (digest_cmp digest k) || (is_eq (digest_cmp digest x) || list_any (λ d. is_eq (digest_cmp digest d)) keys))) [
       | Less ↦ λ is. refl
-      | Equal ↦ λ is. or_twice (is_eq (digest_cmp digest x.items)) _ ∙ ap (λ o. is_eq o || (is_eq (digest_cmp digest x.items) || list_any (λ d. is_eq (digest_cmp digest d)) (map (λ a. a.items) keys))) (sym (alike_right nat_list_cmp_total k.items x.items digest is))
-      | Greater ↦ λ is. ap (λ t. is_eq (digest_cmp digest x.items) || t) rest ∙ or_swap (is_eq (digest_cmp digest x.items)) (is_eq (digest_cmp digest k.items)) _
+      | Equal ↦ λ is. or_twice (is_eq (digest_cmp digest x)) _ ∙ ap (λ o. is_eq o || (is_eq (digest_cmp digest x) || list_any (λ d. is_eq (digest_cmp digest d)) keys)) (sym (alike_right nat_list_cmp_total k x digest is))
+      | Greater ↦ λ is. ap (λ t. is_eq (digest_cmp digest x) || t) rest ∙ or_swap (is_eq (digest_cmp digest x)) (is_eq (digest_cmp digest k)) _
     ] refl
-
--- a set of digests, as the code asks it
-pub any_shown : (digest : List ℕ) (keys : List (Vec ℕ Global)) → list_any (λ k. is_eq (digest_cmp digest k.items)) keys ≡ list_any (λ d. is_eq (digest_cmp digest d)) (map (λ a. a.items) keys)
-any_shown digest [] = refl
-any_shown digest (k ∷ keys) = ap (λ t. is_eq (digest_cmp digest k.items) || t) (any_shown digest keys)
 
 same_digest : (d digest : List ℕ) → same_parts (node_cid d) (node_cid digest) ≡ is_eq (digest_cmp digest d)
 same_digest d digest = lists_ties nat_cmp unsigned_ties d digest ∙ (eq_by_cmp_equiv nat_list_cmp_total).symm d digest
@@ -75,11 +70,11 @@ same_digest d digest = lists_ties nat_cmp unsigned_ties d digest ∙ (eq_by_cmp_
 pub digests_begin : (digests : List (List ℕ)) (nodes : List BlockParts) → digests ≡ [] → nodes ≡ [] → AreDigests digests nodes
 digests_begin digests nodes none-d none-n = record { same = λ digest. ap (list_any (λ d. is_eq (digest_cmp digest d))) none-d ∙ sym (ap (λ bs. is_some (found bs (node_cid digest))) none-n) }
 
-pub digests_more : (keys after : List (Vec ℕ Global)) (nodes now : List BlockParts) (k : Vec ℕ Global) (b : BlockParts) → AreDigests (map (λ a. a.items) keys) nodes → IsNodeBlock b → k.items ≡ b.cid.digest
-    → after ≡ insert_key (λ a b. digest_cmp a.items b.items) keys k → now ≡ nodes ++ b ∷ [] → AreDigests (map (λ a. a.items) after) now
-digests_more keys after nodes now k b seen node is inserted pushed = record {
+pub digests_more : (digests after : List (List ℕ)) (nodes now : List BlockParts) (k : List ℕ) (b : BlockParts) → AreDigests digests nodes → IsNodeBlock b → k ≡ b.cid.digest
+    → after ≡ insert_key digest_cmp digests k → now ≡ nodes ++ b ∷ [] → AreDigests after now
+digests_more digests after nodes now k b seen node is inserted pushed = record {
   same = λ digest.
-      ap (λ ks. list_any (λ d. is_eq (digest_cmp digest d)) (map (λ a. a.items) ks)) inserted ∙ any_insert digest keys k
+      ap (list_any (λ d. is_eq (digest_cmp digest d))) inserted ∙ any_insert digest digests k
       ∙ (λ i. is_eq (digest_cmp digest (is i)) || seen.same digest i)
       ∙ ap (λ t. t || is_some (found nodes (node_cid digest))) (sym (same_digest b.cid.digest digest) ∙ ap (λ c. same_parts c (node_cid digest)) (sym node.cid))
       ∙ or_comm (same_parts b.cid (node_cid digest)) (is_some (found nodes (node_cid digest)))

@@ -1,9 +1,9 @@
-ghost use Rattle.std.specs.Prelude.{◌≡◌, ◌++◌, ◌∷◌, [], All, List, IfOk, OnOk, is_some, if◌then◌else◌, map};
+ghost use Rattle.std.specs.Prelude.{◌≡◌, ◌++◌, ◌∷◌, [], All, List, IfOk, IfSome, OnOk, is_some, if◌then◌else◌};
 ghost use Rattle.cid_core.specs.BlockParts.{BlockParts, found};
 ghost use Rattle.tree_blocks.specs.NewBlocks.{AreDigests, IsNodeBlock, new_blocks, node_cid};
 
 use cid_core::{Block, BlockSource};
-use fil_base::{Cid, Mem, Row};
+use fil_base::{Cid, Mem, NoMemory, Row};
 use std::alloc::Global;
 use std::collections::BTreeSet;
 
@@ -15,43 +15,57 @@ pub fn new_of<B: BlockSource>(alloc: Global, base: &B, nodes: Vec<Block>) -> Mem
     let mut seen = BTreeSet::new(alloc);
     let mut new = Vec::new(alloc);
     for node in nodes {
-        put_new(alloc, base, &mut seen, &mut new, node)?;
+        put_new(base, &mut seen, &mut new, node)?;
     }
     Ok(Row::of(new))
 }
 
 /// Puts a node behind the new ones, if neither they nor the base have it. `seen` has the digests of the new ones.
 fn put_new<B: BlockSource>(
-    alloc: Global,
     base: &B,
-    seen: &mut BTreeSet<Vec<u8>>,
+    seen: &mut BTreeSet<[u8; 32]>,
     new: &mut Vec<Block>,
     node: Block,
 ) -> Mem<()>
-    requires seen { AreDigests (map (λ k. k.items) seen.old.keys) new.old.items }
+    requires seen { AreDigests seen.old.keys new.old.items }
     requires node { IsNodeBlock node }
     ensures after { OnOk result (new.new.items
         ≡ (if is_some (found (B.blocks base.now ++ new.old.items) node.cid) then new.old.items
         else new.old.items ++ node ∷ [])) }
-    ensures seen { OnOk result (AreDigests (map (λ k. k.items) seen.new.keys) new.new.items) }
+    ensures seen { OnOk result (AreDigests seen.new.keys new.new.items) }
 {
-    if is_held(base, seen, node.cid()) {
+    let Some(digest) = digest_of(node.cid()) else {
+        return Err(NoMemory);
+    };
+    if is_held(base, seen, node.cid(), &digest) {
         return Ok(());
     }
-    let digest = Vec::from_slice(alloc, node.cid().digest())?;
     seen.insert(digest)?;
     new.push(node)?;
     Ok(())
 }
 
-/// Whether the base or the nodes with these digests have the CID of a node.
-fn is_held<B: BlockSource>(base: &B, seen: &BTreeSet<Vec<u8>>, cid: &Cid) -> bool
-    requires { cid.now ≡ node_cid cid.now.digest }
-    ensures { (nodes : List BlockParts) → AreDigests (map (λ k. k.items) seen.now.keys) nodes
+/// The digest of a node's CID, which has 32 bytes.
+fn digest_of(cid: &Cid) -> Option<[u8; 32]>
+    ensures { IfSome result (λ digest. digest ≡ cid.now.digest) }
+{
+    cid.digest().try_into().ok()
+}
+
+/// Whether the base or the nodes with these digests have the CID of a node, whose digest is this.
+fn is_held<B: BlockSource>(
+    base: &B,
+    seen: &BTreeSet<[u8; 32]>,
+    cid: &Cid,
+    digest: &[u8; 32],
+) -> bool
+    requires node { cid.now ≡ node_cid cid.now.digest }
+    requires digest { digest.now ≡ cid.now.digest }
+    ensures { (nodes : List BlockParts) → AreDigests seen.now.keys nodes
         → result ≡ is_some (found (B.blocks base.now ++ nodes) cid.now) }
 {
     if base.find(cid).is_some() {
         return true;
     }
-    seen.contains(cid.digest())
+    seen.contains(digest)
 }

@@ -9,5 +9,5 @@ invariant-loop-node g l = record {
   can_next : (goal.iterator-loop-node g).can_next l.node-iterator;
   len : into_iter_len l.node-iterator ≡ length (into_iter_items l.node-iterator);
   new : NewSoFar (g.B.BlockSource.blocks l.base) l.fn.nodes.items (into_iter_items l.node-iterator) l.new.items;
-  seen : AreDigests (map (λ k. k.items) l.seen.keys) l.new.items;
+  seen : AreDigests l.seen.keys l.new.items;
 }
