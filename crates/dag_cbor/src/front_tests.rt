@@ -2,9 +2,10 @@ use super::*;
 
 #[test]
 fn spellings_are_cut_off(rt: HostRuntime) {
-    let rows: [(u64, &[u8], usize); 6] = [
+    let rows: [(u64, &[u8], usize); 7] = [
         (1, &[0x18, 0x18, 0x00], 2),
         (1, &[0x80], 1),
+        (1, &[0x42, 0x01, 0x02, 0x03], 3),
         (1, &[0x63, 0xe2, 0x82, 0xac], 4),
         (1, b"\xd8\x2a\x45\x00\x01\x55\x00\x00\xf6", 8),
         (3, &[0x82, 0x81, 0x05, 0x40, 0xf6], 4),
@@ -20,10 +21,11 @@ fn spellings_are_cut_off(rt: HostRuntime) {
 
 #[test]
 fn other_bytes_have_no_spelling_in_front(rt: HostRuntime) {
-    let rows: [(u64, &[u8]); 10] = [
+    let rows: [(u64, &[u8]); 11] = [
         (128, &[]),
         (0, &[0xf6]),
         (1, &[0x18, 0x17]),
+        (1, &[0x42, 0x01]),
         (1, &[0x81, 0x00]),
         (128, &[0x82, 0x00]),
         (128, &[0x61, 0xff]),
